@@ -1,0 +1,39 @@
+//! A self-ID packet, taken apart.
+
+ghost use Prim.Native.Nat.{_<_};
+use crate::mark::Mark;
+use crate::node::Fields;
+
+// The first packet of a node: its number, its fields and the marks of ports 0 to 2.
+#[derive(Clone, Copy)]
+pub struct PacketZero {
+    pub number: u8,
+    pub fields: Fields,
+    pub marks: [Mark; 3],
+    pub more: bool,
+    ghost number_in_range: { number < 64 },
+}
+
+// A later packet of a node, extension `turn`, with the marks of the eight ports from 8 × turn + 3 on.
+#[derive(Clone, Copy)]
+pub struct Extension {
+    pub number: u8,
+    pub turn: u8,
+    pub marks: [Mark; 8],
+    pub more: bool,
+    ghost number_in_range: { number < 64 },
+    ghost turn_in_range: { turn < 8 },
+}
+
+#[derive(Clone, Copy)]
+pub enum Packet {
+    Zero(PacketZero),
+    Further(Extension),
+}
+
+// Why a word is no packet.
+#[derive(Clone, Copy)]
+pub enum PacketFlaw {
+    NotSelfId,
+    ReservedBit,
+}
