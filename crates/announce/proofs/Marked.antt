@@ -1,0 +1,33 @@
+-- Marks by their codes.
+use mathlib.Core.Path.{_≡_, refl, sym, ap, ap₂, _∙_}
+use mathlib.Core.Bool.{true}
+use mathlib.Core.List.{List, [], _∷_, _++_}
+use Prim.Native.Nat.{ℕ, _+_, _<_, _≤_}
+use native.Mathlib.Omega.{arith}
+use lib.Dec.{ltb}
+use lib.ListN.{length, getD, take, set}
+use Rattle.std.specs.declared.option.Option.the-variants.{Some, None}
+use Rattle.std.specs.shelf.Lists.{map}
+use Rattle.std.proofs.shelf.Lists.{map-push, take-more, take-more-set}
+use Rattle.std.proofs.shelf.Tests.{ltb-true}
+use Rattle.std.proofs.shelf.Ways.{tells}
+use Rattle.selfid.specs.declared.mark.Mark.{Mark}
+use Rattle.selfid.specs.declared.mark.Mark.the-variants.{Absent, Open, Up, Down}
+use Rattle.selfid.specs.Marks.{mark-code, mark-of}
+use Rattle.announce.specs.declared.described.RowPort.{RowPort}
+use Rattle.announce.specs.Rows.{is-mark, Have-marks}
+
+-- A code below 4 is that of a mark.
+pub is-some : (n : ℕ) → n < 4 → mark-of n ≡ None → ⊥
+is-some n h e = grind (arith, tells)
+
+pub has-code : (n : ℕ) (m : Mark) → mark-of n ≡ Some m → n ≡ mark-code m
+has-code n m e = grind (arith, tells)
+
+pub marked-more : (ports : List RowPort) (ms : List Mark) (i : ℕ) (d : RowPort) (m : Mark) → i < length ports → i < length ms → getD ports i d .mark ≡ mark-code m → Have-marks (take i ports) (take i ms) → Have-marks (take (i + 1) ports) (take (i + 1) (set ms i m))
+marked-more ports ms i d m h l e inv =
+    ap (map (λ p. p .mark)) (take-more ports i d h)
+    ∙ map-push (λ p. p .mark) (take i ports) (getD ports i d)
+    ∙ ap₂ (λ a b. a ++ b ∷ []) inv e
+    ∙ sym (map-push mark-code (take i ms) m)
+    ∙ sym (ap (map mark-code) (take-more-set ms i m l))

@@ -1,0 +1,6 @@
+pub mod Held
+pub mod Stops
+pub mod Description
+pub mod Announcing
+-- Words of the inner functions.
+pub mod Rows

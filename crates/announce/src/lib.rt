@@ -1,0 +1,6 @@
+//! Announcing a description: the quadlets that a bench with these nodes and cables sends after a bus reset.
+
+pub mod described;
+mod rows;
+pub mod stack;
+pub mod stop;
