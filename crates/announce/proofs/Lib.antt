@@ -1,3 +1,6 @@
 pub mod Tops
 pub mod Every
 pub mod Marked
+pub mod Times
+pub mod Forests
+pub mod Reaching

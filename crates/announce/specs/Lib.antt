@@ -4,3 +4,4 @@ pub mod Description
 pub mod Announcing
 -- Words of the inner functions.
 pub mod Rows
+pub mod Reach

@@ -4,3 +4,4 @@ pub mod described;
 mod rows;
 pub mod stack;
 pub mod stop;
+mod tree;

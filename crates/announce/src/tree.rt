@@ -1,0 +1,48 @@
+//! Whether the rows of a description are a tree: each row is reached once from row 0, and has the up mark that its place asks for.
+
+ghost use mathlib.Core.Bool.{false};
+ghost use mathlib.Core.List.{List, _∷_, []};
+ghost use mathlib.Core.Path.{_≡_};
+ghost use Prim.Native.Nat.{ℕ, _+_, _<_, _≤_};
+ghost use lib.ListN.{length};
+ghost use Rattle.std.specs.Results.{Cases as ByOk};
+ghost use Rattle.announce.specs.declared.stop.DescriptionStop.the-variants.{NoTree};
+ghost use Rattle.announce.specs.Description.{times};
+ghost use Rattle.announce.specs.Held.{held, room};
+ghost use Rattle.announce.specs.Reach.{children, onto, hit, Children-below, Waiting};
+use crate::described::Row;
+use crate::described::RowPort;
+use crate::stack::Stack;
+use crate::stop::DescriptionStop;
+use selfid::node::NODE_LIMIT;
+
+// Puts the rows of the children on the stack. A row that was reached before is refused: no tree has it.
+fn reach_children(
+    ports: &[RowPort],
+    rows: usize,
+    reached: &mut [bool; NODE_LIMIT],
+    stack: &mut Stack<'_, u8>,
+) -> Result<(), DescriptionStop>
+    requires children_are_rows { ⌜ Children-below rows (now ports) ⌝ }
+    requires rows_fit { ⌜ rows ≤ 63 ⌝ ∗ ⌜ rows ≤ room (now stack) ⌝ }
+    requires each_waits_once { ⌜ Waiting rows (held (now stack)) (now reached) ⌝ }
+    ensures keeps_the_room { λ r. ⌜ room (now (stack .exit)) ≡ room (now (stack .entry)) ⌝ }
+    ensures children_wait { λ r. ⌜ ByOk r (λ _. held (now (stack .exit)) ≡ onto (children (now (ports .entry))) (held (now (stack .entry)))) (λ _. Unit {0}) ⌝ }
+    ensures children_are_reached { λ r. ⌜ ByOk r (λ _. (i : ℕ) → hit (now (reached .exit)) i ≡ hit (now (reached .entry)) i + times i (children (now (ports .entry)))) (λ _. Unit {0}) ⌝ }
+    ensures refuses_a_row_reached_twice { λ r. ⌜ ByOk r (λ _. Unit {0}) (λ e. (e ≡ NoTree) × ((i : ℕ) × (i < rows) × (2 ≤ hit (now (reached .entry)) i + times i (children (now (ports .entry)))))) ⌝ }
+{
+    for port in ports {
+        if port.mark != 3 {
+            continue;
+        }
+        let child = port.child as usize;
+        if reached[child] {
+            return Err(DescriptionStop::NoTree);
+        }
+        reached[child] = true;
+        let Ok(()) = stack.push(port.child) else {
+            unreachable();
+        };
+    }
+    Ok(())
+}
