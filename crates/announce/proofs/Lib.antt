@@ -4,3 +4,5 @@ pub mod Marked
 pub mod Times
 pub mod Forests
 pub mod Reaching
+pub mod Told
+pub mod Waits

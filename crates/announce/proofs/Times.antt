@@ -99,11 +99,13 @@ over-total f (x ∷ xs) n h =
     go (inl l) = l
     go (inr l) = absurd (omega (arith, h x l, is-same x))
 
+pub length-total : (xs : List ℕ) (n : ℕ) → ((i : ℕ) → n ≤ i → times i xs ≡ 0) → length xs ≡ total (λ i. times i xs) n
+length-total xs n h = sym (over-one xs) ∙ over-total (λ _. 1) xs n h ∙ total-same (λ i. times i xs * 1) (λ i. times i xs) n (λ i l. mul-one (times i xs))
+
 -- So a list of numbers below n, none of them twice, has at most n.
 pub few : (xs : List ℕ) (n : ℕ) → ((i : ℕ) → n ≤ i → times i xs ≡ 0) → ((i : ℕ) → times i xs ≤ 1) → length xs ≤ n
 few xs n h once =
-    let e = sym (over-one xs) ∙ over-total (λ _. 1) xs n h ∙ total-same (λ i. times i xs * 1) (λ i. times i xs) n (λ i l. mul-one (times i xs)) in
-    omega (arith, e, total-at-most (λ i. times i xs) (λ _. 1) n (λ i l. once i), total-one n)
+    omega (arith, length-total xs n h, total-at-most (λ i. times i xs) (λ _. 1) n (λ i l. once i), total-one n)
 
 -- Where each number below n stands in it once, a sum over it is a sum over these.
 pub over-each : (f : ℕ → ℕ) (xs : List ℕ) (n : ℕ) → ((i : ℕ) → n ≤ i → times i xs ≡ 0) → ((i : ℕ) → i < n → times i xs ≡ 1) → over f xs ≡ total f n

@@ -4,11 +4,13 @@ use mathlib.Core.Bool.{Bool, true, false, cond, not, _||_}
 use mathlib.Core.List.{List, [], _∷_}
 use Prim.Native.Nat.{ℕ, _≤_}
 use lib.Dec.{eqb, ltb}
-use lib.ListN.{getD}
+use lib.ListN.{length, getD}
 use Rattle.selfid.specs.Packets.{bit}
+use Rattle.selfid.specs.Cabling.{Cabling, node-limit}
+use Rattle.announce.specs.declared.described.Row.{Row}
 use Rattle.announce.specs.declared.described.RowPort.{RowPort}
-use Rattle.announce.specs.Announcing.{every}
-use Rattle.announce.specs.Description.{times}
+use Rattle.announce.specs.Announcing.{every, row-in-range}
+use Rattle.announce.specs.Description.{Describes-at, rows-of, times}
 
 -- The rows of the children, by rising down port.
 abbrev pub children : List RowPort → List ℕ
@@ -35,3 +37,15 @@ hit reached i = bit (getD reached i false)
 pub record Waiting (n : ℕ) (waiting : List ℕ) (reached : List Bool) : Type 0 where
   pub once : (i : ℕ) → times i waiting ≤ hit reached i
   pub rows-only : (i : ℕ) → n ≤ i → hit reached i ≡ 0
+
+-- Row 0 describes a cabling, and the rows of whatever it describes are those that are reached, each once.
+pub record Reached-all (rows : List Row) (reached : List Bool) : Type 0 where
+  pub cabling : Cabling
+  pub describes : Describes-at rows 0 cabling
+  pub counts : (c : Cabling) → Describes-at rows 0 c → (i : ℕ) → times i (rows-of rows 0 c) ≡ hit reached i
+
+-- There are 1 to 63 rows, and all of them are in range.
+pub record In-order (rows : List Row) : Type 0 where
+  pub some : 1 ≤ length rows
+  pub few : length rows ≤ node-limit
+  pub in-range : every (row-in-range (length rows)) rows ≡ true

@@ -6,10 +6,11 @@ ghost use mathlib.Core.Path.{_≡_};
 ghost use Prim.Native.Nat.{ℕ, _+_, _<_, _≤_};
 ghost use lib.ListN.{length};
 ghost use Rattle.std.specs.Results.{Cases as ByOk};
+ghost use Rattle.selfid.specs.Cabling.{Cabling};
 ghost use Rattle.announce.specs.declared.stop.DescriptionStop.the-variants.{NoTree};
-ghost use Rattle.announce.specs.Description.{times};
+ghost use Rattle.announce.specs.Description.{Describes, times};
 ghost use Rattle.announce.specs.Held.{held, room};
-ghost use Rattle.announce.specs.Reach.{children, onto, hit, Children-below, Waiting};
+ghost use Rattle.announce.specs.Reach.{children, onto, hit, Children-below, Waiting, Reached-all, In-order};
 use crate::described::Row;
 use crate::described::RowPort;
 use crate::stack::Stack;
@@ -45,4 +46,28 @@ fn reach_children(
         };
     }
     Ok(())
+}
+
+// The rows that are reached from row 0, which waits first, then its children and theirs. A row that is reached twice is refused.
+fn reach_all(rows: &[Row], row: &mut [u8]) -> Result<[bool; NODE_LIMIT], DescriptionStop>
+    requires rows_are_in_order { ⌜ In-order (now rows) ⌝ }
+    requires rows_fit_the_stack { ⌜ length (now rows) ≤ length (now row) ⌝ }
+    ensures each_is_reached_once { λ r. ⌜ ByOk r (λ reached. Reached-all (now (rows .entry)) reached) (λ _. Unit {0}) ⌝ }
+    ensures refuses_what_describes_no_cabling { λ r. ⌜ ByOk r (λ _. Unit {0}) (λ e. (e ≡ NoTree) × ((c : Cabling) → Describes (now (rows .entry)) c → ⊥)) ⌝ }
+{
+    let mut reached = [false; NODE_LIMIT];
+    reached[0] = true;
+    let mut stack = Stack::new(row);
+    let Ok(()) = stack.push(0) else {
+        unreachable();
+    };
+    while let Some(next) = stack.pop() {
+        reach_children(
+            &rows[next as usize].ports,
+            rows.len(),
+            &mut reached,
+            &mut stack,
+        )?;
+    }
+    Ok(reached)
 }
