@@ -8,7 +8,9 @@ use lib.Dec.{eqb, ltb}
 use lib.ListN.{length}
 use Rattle.std.proofs.shelf.Tests.{eq-eqb, ne-eqb, ltb-true, and-parts}
 use Rattle.selfid.specs.declared.node.Fields.{Fields}
-use Rattle.selfid.specs.Cabling.{Cabling, node, Ports, end, absent, «open», up, down, marks-of}
+use Rattle.selfid.specs.Marks.{mark-code}
+use Rattle.selfid.specs.Cabling.{Childless, absent, «open», up, childless-mark, Cabling, node, Ports, end, plain, down}
+use Rattle.selfid.proofs.Tells.{leads-to-none}
 use Rattle.announce.specs.declared.described.Row.{Row}
 use Rattle.announce.specs.declared.described.RowPort.{RowPort}
 use Rattle.announce.specs.Announcing.{every}
@@ -53,12 +55,8 @@ module _ (rows : List Row) where
   pub hanging : (ps : Ports) (ports : List RowPort) → Describe-ports rows ps ports → Hanging (children ports) (rows-below rows ps ports)
   hanging end [] d = record { cablings = []; forest = tt; counts = λ k. refl }
   hanging end (p ∷ rest) d = absurd d
-  hanging (absent ps) [] d = absurd d
-  hanging (absent ps) (p ∷ rest) d = rw (children-other p rest (λ e. omega (arith, d .0, e))) (hanging ps rest (d .1))
-  hanging («open» ps) [] d = absurd d
-  hanging («open» ps) (p ∷ rest) d = rw (children-other p rest (λ e. omega (arith, d .0, e))) (hanging ps rest (d .1))
-  hanging (up ps) [] d = absurd d
-  hanging (up ps) (p ∷ rest) d = rw (children-other p rest (λ e. omega (arith, d .0, e))) (hanging ps rest (d .1))
+  hanging (plain k ps) [] d = absurd d
+  hanging (plain k ps) (p ∷ rest) d = rw (children-other p rest (λ e. leads-to-none k (sym (d .0) ∙ e))) (hanging ps rest (d .1))
   hanging (down c ps) [] d = absurd d
   hanging (down c ps) (p ∷ rest) d =
       let h = hanging ps rest (d .2) in
@@ -76,11 +74,11 @@ module _ (rows : List Row) where
     pub counts : (k : ℕ) → times k (rows-below rows hung ports) ≡ times k (children ports) + times k (below rows (children ports) cs)
 
   -- A port that is not down is put before ports that are hung, and one that is.
-  hang-other : (p : RowPort) (rest : List RowPort) (cs : List Cabling) (f : Ports → Ports) → (p .mark ≡ 3 → ⊥) → ((ps : Ports) → Describe-ports rows ps rest → Describe-ports rows (f ps) (p ∷ rest)) → ((ps : Ports) → rows-below rows (f ps) (p ∷ rest) ≡ rows-below rows ps rest) → Forest rows (children (p ∷ rest)) cs → (Forest rows (children rest) cs → Hung rest cs) → Hung (p ∷ rest) cs
-  hang-other p rest cs f other put same forest ih =
-      let e = children-other p rest other in
+  hang-plain : (k : Childless) (p : RowPort) (rest : List RowPort) (cs : List Cabling) → p .mark ≡ mark-code (childless-mark k) → Forest rows (children (p ∷ rest)) cs → (Forest rows (children rest) cs → Hung rest cs) → Hung (p ∷ rest) cs
+  hang-plain k p rest cs m forest ih =
+      let e = children-other p rest (λ d. leads-to-none k (sym m ∙ d)) in
       let h = ih (rw e at forest) in
-      record { hung = f (h .hung); describe = put (h .hung) (h .describe); counts = λ k. rw (same (h .hung), e) (h .counts k) }
+      record { hung = plain k (h .hung); describe = (m, h .describe); counts = λ i. rw e (h .counts i) }
 
   hang-down : (p : RowPort) (rest : List RowPort) (cs : List Cabling) → p .mark ≡ 3 → Forest rows (p .child ∷ children rest) cs → ((cs : List Cabling) → Forest rows (children rest) cs → Hung rest cs) → Hung (p ∷ rest) cs
   hang-down p rest [] e forest ih = absurd forest
@@ -93,9 +91,9 @@ module _ (rows : List Row) where
       }
 
   hang-port : (m : ℕ) (p : RowPort) (rest : List RowPort) (cs : List Cabling) → p .mark ≡ m → m < 4 → Forest rows (children (p ∷ rest)) cs → ((cs : List Cabling) → Forest rows (children rest) cs → Hung rest cs) → Hung (p ∷ rest) cs
-  hang-port zero p rest cs e l f ih = hang-other p rest cs absent (λ h. omega arith) (λ ps d. (e, d)) (λ ps. refl) f (ih cs)
-  hang-port (suc zero) p rest cs e l f ih = hang-other p rest cs «open» (λ h. omega arith) (λ ps d. (e, d)) (λ ps. refl) f (ih cs)
-  hang-port (suc (suc zero)) p rest cs e l f ih = hang-other p rest cs up (λ h. omega arith) (λ ps d. (e, d)) (λ ps. refl) f (ih cs)
+  hang-port zero p rest cs e l f ih = hang-plain absent p rest cs e f (ih cs)
+  hang-port (suc zero) p rest cs e l f ih = hang-plain «open» p rest cs e f (ih cs)
+  hang-port (suc (suc zero)) p rest cs e l f ih = hang-plain up p rest cs e f (ih cs)
   hang-port (suc (suc (suc zero))) p rest cs e l f ih = hang-down p rest cs e (rw (children-down p rest e) at f) ih
   hang-port (suc (suc (suc (suc n)))) p rest cs e l f ih = absurd (omega arith)
 

@@ -6,3 +6,4 @@ pub mod Forests
 pub mod Reaching
 pub mod Told
 pub mod Waits
+pub mod Trees

@@ -7,11 +7,11 @@ use lib.Dec.{eqb}
 use lib.ListN.{length}
 use Rattle.std.specs.declared.option.Option.the-variants.{Some, None}
 use Rattle.std.specs.shelf.Maps.{nth}
-use Rattle.selfid.specs.declared.mark.Mark.the-variants.{Absent, Open, Up, Down}
+use Rattle.selfid.specs.declared.mark.Mark.the-variants.{Down}
 use Rattle.selfid.specs.declared.node.Fields.{Fields}
 use Rattle.selfid.specs.Marks.{mark-code}
 use Rattle.selfid.specs.Speeds.{speed-code}
-use Rattle.selfid.specs.Cabling.{Cabling, node, Ports, end, absent, «open», up, down}
+use Rattle.selfid.specs.Cabling.{Cabling, node, Ports, end, plain, down, childless-mark}
 use Rattle.announce.specs.declared.described.Row.{Row}
 use Rattle.announce.specs.declared.described.RowPort.{RowPort}
 
@@ -39,12 +39,8 @@ abbrev mutual
   pub Describe-ports : List Row → Ports → List RowPort → Type 0
   Describe-ports rows end [] = Unit {0}
   Describe-ports rows end (p ∷ rest) = ⊥
-  Describe-ports rows (absent ps) [] = ⊥
-  Describe-ports rows (absent ps) (p ∷ rest) = (p .mark ≡ mark-code Absent) × Describe-ports rows ps rest
-  Describe-ports rows («open» ps) [] = ⊥
-  Describe-ports rows («open» ps) (p ∷ rest) = (p .mark ≡ mark-code Open) × Describe-ports rows ps rest
-  Describe-ports rows (up ps) [] = ⊥
-  Describe-ports rows (up ps) (p ∷ rest) = (p .mark ≡ mark-code Up) × Describe-ports rows ps rest
+  Describe-ports rows (plain k ps) [] = ⊥
+  Describe-ports rows (plain k ps) (p ∷ rest) = (p .mark ≡ mark-code (childless-mark k)) × Describe-ports rows ps rest
   Describe-ports rows (down c ps) [] = ⊥
   Describe-ports rows (down c ps) (p ∷ rest) = (p .mark ≡ mark-code Down) × Describes-at rows (p .child) c × Describe-ports rows ps rest
 
@@ -55,12 +51,8 @@ abbrev mutual
 
   pub rows-below : List Row → Ports → List RowPort → List ℕ
   rows-below rows end ports = []
-  rows-below rows (absent ps) [] = []
-  rows-below rows (absent ps) (p ∷ rest) = rows-below rows ps rest
-  rows-below rows («open» ps) [] = []
-  rows-below rows («open» ps) (p ∷ rest) = rows-below rows ps rest
-  rows-below rows (up ps) [] = []
-  rows-below rows (up ps) (p ∷ rest) = rows-below rows ps rest
+  rows-below rows (plain k ps) [] = []
+  rows-below rows (plain k ps) (p ∷ rest) = rows-below rows ps rest
   rows-below rows (down c ps) [] = []
   rows-below rows (down c ps) (p ∷ rest) = rows-of rows (p .child) c ++ rows-below rows ps rest
 

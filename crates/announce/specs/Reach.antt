@@ -2,15 +2,16 @@
 use mathlib.Core.Path.{_≡_}
 use mathlib.Core.Bool.{Bool, true, false, cond, not, _||_}
 use mathlib.Core.List.{List, [], _∷_}
-use Prim.Native.Nat.{ℕ, _≤_}
+use Prim.Native.Nat.{ℕ, zero, suc, _+_, _<_, _≤_}
 use lib.Dec.{eqb, ltb}
 use lib.ListN.{length, getD}
 use Rattle.selfid.specs.Packets.{bit}
+use Rattle.selfid.specs.Nodes.{port-limit}
 use Rattle.selfid.specs.Cabling.{Cabling, node-limit}
 use Rattle.announce.specs.declared.described.Row.{Row}
 use Rattle.announce.specs.declared.described.RowPort.{RowPort}
 use Rattle.announce.specs.Announcing.{every, row-in-range}
-use Rattle.announce.specs.Description.{Describes-at, rows-of, times}
+use Rattle.announce.specs.Description.{Describes-at, ports-at, rows-of, times}
 
 -- The rows of the children, by rising down port.
 abbrev pub children : List RowPort → List ℕ
@@ -49,3 +50,18 @@ pub record In-order (rows : List Row) : Type 0 where
   pub some : 1 ≤ length rows
   pub few : length rows ≤ node-limit
   pub in-range : every (row-in-range (length rows)) rows ≡ true
+  pub all-ports : (i : ℕ) → i < length rows → length (ports-at rows i) ≡ port-limit
+
+-- How many ports are marked up.
+abbrev pub ups-of : List RowPort → ℕ
+ups-of [] = 0
+ups-of (p ∷ ps) = cond (eqb (p .mark) 2) 1 0 + ups-of ps
+
+-- The up marks that are due in row i: none in row 0, one in any other.
+abbrev pub ups-due : ℕ → ℕ
+ups-due zero = 0
+ups-due (suc i) = 1
+
+-- Row i is reached, and has the up marks that are due.
+abbrev pub Placed : List Row → List Bool → ℕ → Type 0
+Placed rows reached i = (hit reached i ≡ 1) × (ups-of (ports-at rows i) ≡ ups-due i)

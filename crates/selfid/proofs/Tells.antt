@@ -1,16 +1,16 @@
 -- The announcement tells the cabling: it is read from its end, each node before its children and the highest down port first.
-use mathlib.Core.Path.{_≡_, refl, sym, ap, _∙_}
+use mathlib.Core.Path.{_≡_, refl, sym, ap, ap₂, _∙_}
 use mathlib.Core.List.{List, [], _∷_, _++_, append-assoc, append-nil}
-use Prim.Native.Nat.{ℕ, _+_}
+use Prim.Native.Nat.{ℕ, zero, suc, _+_}
 use native.Mathlib.Omega.{arith}
 use lib.ListN.{length, getD, drop}
 use Rattle.selfid.specs.declared.mark.Mark.{Mark}
 use Rattle.selfid.specs.declared.mark.Mark.the-variants.{Absent, Open, Up, Down}
 use Rattle.selfid.specs.declared.node.Fields.{Fields}
 use Rattle.selfid.specs.Marks.{mark-code}
-use Rattle.selfid.specs.Packets.{with-inverses, inverse-of}
+use Rattle.selfid.specs.Packets.{code-at, with-inverses}
 use Rattle.selfid.specs.Nodes.{node-packets}
-use Rattle.selfid.specs.Cabling.{Cabling, node, Ports, end, absent, «open», up, down, marks-of, size, size-below, Sound, Sound-below, Proper}
+use Rattle.selfid.specs.Cabling.{Childless, absent, «open», up, childless-mark, Cabling, node, Ports, end, plain, down, marks-of, size, size-below, Sound, Sound-below, Proper}
 use Rattle.selfid.specs.Announcement.{packets-from, packets-below, packets, announcement, Announcement-tells-the-cabling}
 use Rattle.selfid.proofs.Apart.{node-known}
 
@@ -23,16 +23,31 @@ record Same-ports (a b : List ℕ) (ps qs : Ports) : Type 0 where
   before : a ≡ b
   ports : ps ≡ qs
 
-under : {a b : List ℕ} {ps qs : Ports} (f : Ports → Ports) → Same-ports a b ps qs → Same-ports a b (f ps) (f qs)
-under f r = record { before = r .before; ports = ap f (r .ports) }
+-- Lists of marks that are the same begin with the same code and go on the same.
+pub head-code : {m o : Mark} {ms os : List Mark} → _≡_ {A = List Mark} (m ∷ ms) (o ∷ os) → mark-code m ≡ mark-code o
+head-code e = ap (λ l. code-at l 0) e
 
--- Lists of marks that begin otherwise are not the same.
-abbrev shape : List Mark → ℕ
-shape [] = 4
-shape (m ∷ ms) = mark-code m
-
-tail-marks : {m o : Mark} {ms os : List Mark} → _≡_ {A = List Mark} (m ∷ ms) (o ∷ os) → ms ≡ os
+pub tail-marks : {m o : Mark} {ms os : List Mark} → _≡_ {A = List Mark} (m ∷ ms) (o ∷ os) → ms ≡ os
 tail-marks e = ap (drop 1) e
+
+-- A port without a child is not down, and is known by the code of its mark.
+pub leads-to-none : (k : Childless) → mark-code (childless-mark k) ≡ 3 → ⊥
+leads-to-none absent e = omega arith
+leads-to-none «open» e = omega arith
+leads-to-none up e = omega arith
+
+abbrev childless-with : ℕ → Childless
+childless-with zero = absent
+childless-with (suc zero) = «open»
+childless-with (suc (suc n)) = up
+
+with-its-code : (k : Childless) → childless-with (mark-code (childless-mark k)) ≡ k
+with-its-code absent = refl
+with-its-code «open» = refl
+with-its-code up = refl
+
+pub childless-known : (k j : Childless) → mark-code (childless-mark k) ≡ mark-code (childless-mark j) → k ≡ j
+childless-known k j e = sym (with-its-code k) ∙ ap childless-with e ∙ with-its-code j
 
 mutual
   cabling-known : (c d : Cabling) (a b : List ℕ) (n m k l : ℕ) → Sound k c → Sound l d → a ++ packets-from n c ≡ b ++ packets-from m d → Same-cabling a b c d
@@ -45,35 +60,19 @@ mutual
 
   ports-known : (ps qs : Ports) (a b : List ℕ) (n m : ℕ) → Sound-below ps → Sound-below qs → marks-of ps ≡ marks-of qs → a ++ packets-below n ps ≡ b ++ packets-below m qs → Same-ports a b ps qs
   ports-known end end a b n m s t ms e = record { before = sym (append-nil a) ∙ e ∙ append-nil b; ports = refl }
-  ports-known end (absent qs) a b n m s t ms e = absurd (omega (arith, ap shape ms))
-  ports-known end («open» qs) a b n m s t ms e = absurd (omega (arith, ap shape ms))
-  ports-known end (up qs) a b n m s t ms e = absurd (omega (arith, ap shape ms))
-  ports-known end (down d qs) a b n m s t ms e = absurd (omega (arith, ap shape ms))
-  ports-known (absent ps) end a b n m s t ms e = absurd (omega (arith, ap shape ms))
-  ports-known (absent ps) (absent qs) a b n m s t ms e = under absent (ports-known ps qs a b n m s t (tail-marks ms) e)
-  ports-known (absent ps) («open» qs) a b n m s t ms e = absurd (omega (arith, ap shape ms))
-  ports-known (absent ps) (up qs) a b n m s t ms e = absurd (omega (arith, ap shape ms))
-  ports-known (absent ps) (down d qs) a b n m s t ms e = absurd (omega (arith, ap shape ms))
-  ports-known («open» ps) end a b n m s t ms e = absurd (omega (arith, ap shape ms))
-  ports-known («open» ps) (absent qs) a b n m s t ms e = absurd (omega (arith, ap shape ms))
-  ports-known («open» ps) («open» qs) a b n m s t ms e = under «open» (ports-known ps qs a b n m s t (tail-marks ms) e)
-  ports-known («open» ps) (up qs) a b n m s t ms e = absurd (omega (arith, ap shape ms))
-  ports-known («open» ps) (down d qs) a b n m s t ms e = absurd (omega (arith, ap shape ms))
-  ports-known (up ps) end a b n m s t ms e = absurd (omega (arith, ap shape ms))
-  ports-known (up ps) (absent qs) a b n m s t ms e = absurd (omega (arith, ap shape ms))
-  ports-known (up ps) («open» qs) a b n m s t ms e = absurd (omega (arith, ap shape ms))
-  ports-known (up ps) (up qs) a b n m s t ms e = under up (ports-known ps qs a b n m s t (tail-marks ms) e)
-  ports-known (up ps) (down d qs) a b n m s t ms e = absurd (omega (arith, ap shape ms))
-  ports-known (down c ps) end a b n m s t ms e = absurd (omega (arith, ap shape ms))
-  ports-known (down c ps) (absent qs) a b n m s t ms e = absurd (omega (arith, ap shape ms))
-  ports-known (down c ps) («open» qs) a b n m s t ms e = absurd (omega (arith, ap shape ms))
-  ports-known (down c ps) (up qs) a b n m s t ms e = absurd (omega (arith, ap shape ms))
+  ports-known end (plain k qs) a b n m s t ms e = absurd (omega (arith, ap length ms))
+  ports-known end (down d qs) a b n m s t ms e = absurd (omega (arith, ap length ms))
+  ports-known (plain k ps) end a b n m s t ms e = absurd (omega (arith, ap length ms))
+  ports-known (plain k ps) (plain j qs) a b n m s t ms e =
+      let r = ports-known ps qs a b n m s t (tail-marks ms) e in
+      record { before = r .before; ports = ap₂ plain (childless-known k j (head-code ms)) (r .ports) }
+  ports-known (plain k ps) (down d qs) a b n m s t ms e = absurd (leads-to-none k (head-code ms))
+  ports-known (down c ps) end a b n m s t ms e = absurd (omega (arith, ap length ms))
+  ports-known (down c ps) (plain k qs) a b n m s t ms e = absurd (leads-to-none k (sym (head-code ms)))
   ports-known (down c ps) (down d qs) a b n m s t ms e =
       let r = ports-known ps qs (a ++ packets-from n c) (b ++ packets-from m d) (n + size c) (m + size d) (s .1) (t .1) (tail-marks ms) (append-assoc a (packets-from n c) _ ∙ e ∙ sym (append-assoc b (packets-from m d) _)) in
       let h = cabling-known c d a b n m 1 1 (s .0) (t .0) (r .before) in
-      let f = h .cabling in
-      let p = r .ports in
-      record { before = h .before; ports = λ i. down (f i) (p i) }
+      record { before = h .before; ports = ap₂ down (h .cabling) (r .ports) }
 
 -- Without its inverses an announcement is its packets.
 pub packets-known : (qs rs : List ℕ) → with-inverses qs ≡ with-inverses rs → qs ≡ rs

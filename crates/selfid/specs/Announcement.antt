@@ -4,7 +4,7 @@ use mathlib.Core.List.{List, [], _∷_, _++_}
 use Prim.Native.Nat.{ℕ, _+_}
 use Rattle.selfid.specs.Packets.{with-inverses}
 use Rattle.selfid.specs.Nodes.{node-packets}
-use Rattle.selfid.specs.Cabling.{Cabling, node, Ports, end, absent, «open», up, down, marks-of, size, size-below, Proper}
+use Rattle.selfid.specs.Cabling.{Cabling, node, Ports, end, plain, down, marks-of, size, size-below, Proper}
 
 -- The packets of a cabling before whose nodes n others are announced: for each down port, in rising number, all of the child's, then the topmost node's own.
 -- A node's number is the count of nodes announced before it.
@@ -14,9 +14,7 @@ abbrev mutual
 
   pub packets-below : (n : ℕ) → Ports → List ℕ
   packets-below n end = []
-  packets-below n (absent ps) = packets-below n ps
-  packets-below n («open» ps) = packets-below n ps
-  packets-below n (up ps) = packets-below n ps
+  packets-below n (plain k ps) = packets-below n ps
   packets-below n (down c ps) = packets-from n c ++ packets-below (n + size c) ps
 
 abbrev pub packets : Cabling → List ℕ

@@ -13,6 +13,10 @@ use Rattle.selfid.specs.Nodes.{port-limit}
 abbrev pub node-limit : ℕ
 node-limit = 63
 
+-- A port that leads to no child is absent, open, or leads up to the parent.
+pub data Childless : Type 0 where
+  absent «open» up : Childless
+
 -- A cabling, by its topmost node: the node's fields, and its ports in rising number. A down port holds the child with all that hangs below it.
 -- Two cablings are the same if tree, fields and marks agree, which is what ≡ says of them.
 mutual
@@ -21,14 +25,17 @@ mutual
 
   pub data Ports : Type 0 where
     end : Ports
-    absent «open» up : Ports → Ports
+    plain : Childless → Ports → Ports
     down : Cabling → Ports → Ports
+
+abbrev pub childless-mark : Childless → Mark
+childless-mark absent = Absent
+childless-mark «open» = Open
+childless-mark up = Up
 
 abbrev pub marks-of : Ports → List Mark
 marks-of end = []
-marks-of (absent ps) = Absent ∷ marks-of ps
-marks-of («open» ps) = Open ∷ marks-of ps
-marks-of (up ps) = Up ∷ marks-of ps
+marks-of (plain k ps) = childless-mark k ∷ marks-of ps
 marks-of (down c ps) = Down ∷ marks-of ps
 
 -- How many nodes a cabling has, and how many hang below some ports.
@@ -38,9 +45,7 @@ abbrev mutual
 
   pub size-below : Ports → ℕ
   size-below end = 0
-  size-below (absent ps) = size-below ps
-  size-below («open» ps) = size-below ps
-  size-below (up ps) = size-below ps
+  size-below (plain k ps) = size-below ps
   size-below (down c ps) = size c + size-below ps
 
 -- The topmost node has all its ports and n of them are up; each node below it has all its ports and one of them is up, which is the far end of the down port above.
@@ -50,9 +55,7 @@ abbrev mutual
 
   pub Sound-below : Ports → Type 0
   Sound-below end = Unit {0}
-  Sound-below (absent ps) = Sound-below ps
-  Sound-below («open» ps) = Sound-below ps
-  Sound-below (up ps) = Sound-below ps
+  Sound-below (plain k ps) = Sound-below ps
   Sound-below (down c ps) = Sound 1 c × Sound-below ps
 
 -- A proper cabling: the root has no up port, every other node has just one, and there are at most 63 nodes.
