@@ -7,3 +7,4 @@ pub mod Reaching
 pub mod Told
 pub mod Waits
 pub mod Trees
+pub mod Placing

@@ -7,11 +7,11 @@ use lib.Dec.{eqb, ltb}
 use lib.ListN.{length, getD}
 use Rattle.selfid.specs.Packets.{bit}
 use Rattle.selfid.specs.Nodes.{port-limit}
-use Rattle.selfid.specs.Cabling.{Cabling, node-limit}
+use Rattle.selfid.specs.Cabling.{Cabling, Proper, node-limit}
 use Rattle.announce.specs.declared.described.Row.{Row}
 use Rattle.announce.specs.declared.described.RowPort.{RowPort}
 use Rattle.announce.specs.Announcing.{every, row-in-range}
-use Rattle.announce.specs.Description.{Describes-at, ports-at, rows-of, times}
+use Rattle.announce.specs.Description.{Describes, Describes-at, ports-at, rows-of, times}
 
 -- The rows of the children, by rising down port.
 abbrev pub children : List RowPort → List ℕ
@@ -65,3 +65,9 @@ ups-due (suc i) = 1
 -- Row i is reached, and has the up marks that are due.
 abbrev pub Placed : List Row → List Bool → ℕ → Type 0
 Placed rows reached i = (hit reached i ≡ 1) × (ups-of (ports-at rows i) ≡ ups-due i)
+
+-- The rows describe a proper cabling.
+pub record Described (rows : List Row) : Type 0 where
+  pub cabling : Cabling
+  pub describes : Describes rows cabling
+  pub proper : Proper cabling

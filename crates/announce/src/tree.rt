@@ -4,13 +4,15 @@ ghost use mathlib.Core.Bool.{false};
 ghost use mathlib.Core.List.{List, _∷_, []};
 ghost use mathlib.Core.Path.{_≡_};
 ghost use Prim.Native.Nat.{ℕ, _+_, _<_, _≤_};
+ghost use lib.Dec.{eqb};
 ghost use lib.ListN.{length};
+ghost use Rattle.std.specs.Orderings.{When};
 ghost use Rattle.std.specs.Results.{Cases as ByOk};
-ghost use Rattle.selfid.specs.Cabling.{Cabling};
+ghost use Rattle.selfid.specs.Cabling.{Cabling, Proper};
 ghost use Rattle.announce.specs.declared.stop.DescriptionStop.the-variants.{NoTree};
 ghost use Rattle.announce.specs.Description.{Describes, times};
 ghost use Rattle.announce.specs.Held.{held, room};
-ghost use Rattle.announce.specs.Reach.{children, onto, hit, Children-below, Waiting, Reached-all, In-order};
+ghost use Rattle.announce.specs.Reach.{children, onto, hit, Children-below, Waiting, Reached-all, In-order, ups-of, ups-due, Placed, Described};
 use crate::described::Row;
 use crate::described::RowPort;
 use crate::stack::Stack;
@@ -70,4 +72,56 @@ fn reach_all(rows: &[Row], row: &mut [u8]) -> Result<[bool; NODE_LIMIT], Descrip
         )?;
     }
     Ok(reached)
+}
+
+// How many of the ports are marked up.
+fn count_ups(ports: &[RowPort]) -> usize
+    ensures counts_them { λ r. ⌜ r ≡ ups-of (now (ports .entry)) ⌝ }
+{
+    let mut count = 0;
+    for port in ports {
+        if port.mark == 2 {
+            count += 1;
+        }
+    }
+    count
+}
+
+// Has row i, of which these are the ports, the up marks that are due: none in row 0, one in any other?
+fn has_its_ups(ports: &[RowPort], i: usize) -> bool
+    ensures tells_if_it_has { λ r. ⌜ r ≡ eqb (ups-of (now (ports .entry))) (ups-due i) ⌝ }
+{
+    let due = if i == 0 { 0 } else { 1 };
+    count_ups(ports) == due
+}
+
+// Is each row reached, and has each the up marks that are due?
+fn all_placed(rows: &[Row], reached: &[bool; NODE_LIMIT]) -> bool
+    requires few_rows { ⌜ length (now rows) ≤ 63 ⌝ }
+    ensures tells_if_all_are { λ r. ⌜ When r ((i : ℕ) → i < length (now (rows .entry)) → Placed (now (rows .entry)) (now (reached .entry)) i) ((i : ℕ) × (i < length (now (rows .entry))) × (Placed (now (rows .entry)) (now (reached .entry)) i → ⊥)) ⌝ }
+{
+    for (i, row) in rows.iter().enumerate() {
+        if !reached[i] {
+            return false;
+        }
+        if !has_its_ups(&row.ports, i) {
+            return false;
+        }
+    }
+    true
+}
+
+// Do the rows describe a cabling? The stack row lends room for the rows that wait.
+pub(crate) fn check_tree(rows: &[Row], row: &mut [u8]) -> Result<(), DescriptionStop>
+    requires rows_are_in_order { ⌜ In-order (now rows) ⌝ }
+    requires rows_fit_the_stack { ⌜ length (now rows) ≤ length (now row) ⌝ }
+    ensures passes_what_describes_a_cabling { λ r. ⌜ ByOk r (λ _. Described (now (rows .entry))) (λ _. Unit {0}) ⌝ }
+    ensures refuses_what_describes_none { λ r. ⌜ ByOk r (λ _. Unit {0}) (λ e. (e ≡ NoTree) × ((c : Cabling) → Describes (now (rows .entry)) c → Proper c → ⊥)) ⌝ }
+{
+    let reached = reach_all(rows, row)?;
+    if all_placed(rows, &reached) {
+        Ok(())
+    } else {
+        Err(DescriptionStop::NoTree)
+    }
 }
