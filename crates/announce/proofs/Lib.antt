@@ -8,3 +8,4 @@ pub mod Told
 pub mod Waits
 pub mod Trees
 pub mod Placing
+pub mod Putting

@@ -5,3 +5,4 @@ pub mod Announcing
 -- Words of the inner functions.
 pub mod Rows
 pub mod Reach
+pub mod Writing

@@ -1,6 +1,7 @@
 //! Announcing a description: the quadlets that a bench with these nodes and cables sends after a bus reset.
 
 pub mod described;
+mod node;
 mod rows;
 pub mod stack;
 pub mod stop;
