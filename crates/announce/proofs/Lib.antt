@@ -9,3 +9,4 @@ pub mod Waits
 pub mod Trees
 pub mod Placing
 pub mod Putting
+pub mod Lengths

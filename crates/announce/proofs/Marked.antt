@@ -14,8 +14,18 @@ use Rattle.std.proofs.shelf.Ways.{tells}
 use Rattle.selfid.specs.declared.mark.Mark.{Mark}
 use Rattle.selfid.specs.declared.mark.Mark.the-variants.{Absent, Open, Up, Down}
 use Rattle.selfid.specs.Marks.{mark-code, mark-of}
+use Rattle.selfid.specs.Reading.{mark-in}
+use Rattle.selfid.proofs.Digits.{mark-back}
 use Rattle.announce.specs.declared.described.RowPort.{RowPort}
 use Rattle.announce.specs.Rows.{is-mark, Have-marks}
+
+-- Lists of marks are known by their codes.
+pub codes-back : (ms : List Mark) → map mark-in (map mark-code ms) ≡ ms
+codes-back [] = refl
+codes-back (m ∷ ms) = ap₂ (λ a b. a ∷ b) (mark-back m) (codes-back ms)
+
+pub same-codes : (ms os : List Mark) → map mark-code ms ≡ map mark-code os → ms ≡ os
+same-codes ms os e = sym (codes-back ms) ∙ ap (map mark-in) e ∙ codes-back os
 
 -- A code below 4 is that of a mark.
 pub is-some : (n : ℕ) → n < 4 → mark-of n ≡ None → ⊥

@@ -18,10 +18,10 @@ use Rattle.selfid.specs.declared.mark.Mark.{Mark}
 use Rattle.selfid.specs.declared.node.Fields.{Fields}
 use Rattle.selfid.specs.Marks.{mark-code, ups}
 use Rattle.selfid.specs.Speeds.{speed-code}
-use Rattle.selfid.specs.Reading.{mark-in, speed-in}
+use Rattle.selfid.specs.Reading.{speed-in}
 use Rattle.selfid.specs.Cabling.{Childless, absent, «open», up, childless-mark, Cabling, node, Ports, end, plain, down, marks-of, size, size-below}
 use Rattle.selfid.proofs.Same.{same-fields}
-use Rattle.selfid.proofs.Digits.{mark-back, speed-back}
+use Rattle.selfid.proofs.Digits.{speed-back}
 use Rattle.selfid.proofs.Tells.{head-code, tail-marks, leads-to-none, childless-known}
 use Rattle.announce.specs.declared.described.Row.{Row}
 use Rattle.announce.specs.declared.described.RowPort.{RowPort}
@@ -29,15 +29,8 @@ use Rattle.announce.specs.Description.{Has-fields, Fields-at, ports-at, Descri
 use Rattle.announce.specs.Announcing.{Describe-one-cabling}
 use Rattle.announce.specs.Rows.{Have-marks}
 use Rattle.announce.specs.Reach.{ups-of}
+use Rattle.announce.proofs.Marked.{same-codes}
 use Rattle.announce.proofs.Times.{is, is-other, times-append}
-
--- Two lists of marks with the same codes are the same.
-pub same-codes : (ms os : List Mark) → map mark-code ms ≡ map mark-code os → ms ≡ os
-same-codes ms os e = sym (back ms) ∙ ap (map mark-in) e ∙ back os
-  where
-    back : (ms : List Mark) → map mark-in (map mark-code ms) ≡ ms
-    back [] = refl
-    back (m ∷ ms) = ap₂ (λ a b. a ∷ b) (mark-back m) (back ms)
 
 -- The row that has these fields.
 pub record Row-here (rows : List Row) (i : ℕ) (x : Fields) : Type 0 where

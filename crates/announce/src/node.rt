@@ -44,6 +44,7 @@ fn mark_at(marks: &[Mark; PORT_LIMIT], port: usize) -> Mark
 
 // How many packets a node with these marks sends.
 pub(crate) fn count_packets(marks: &[Mark; PORT_LIMIT]) -> usize
+    ensures at_most_three { λ r. ⌜ r ≤ 3 ⌝ }
     ensures counts_packet_zero_and_the_extensions { λ r. ⌜ r ≡ suc (length (extensions 2 0 0 (drop 3 (now (marks .entry))))) ⌝ }
 {
     for turn in 0..EXTENSION_LIMIT {
