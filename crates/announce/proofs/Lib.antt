@@ -10,3 +10,4 @@ pub mod Trees
 pub mod Placing
 pub mod Putting
 pub mod Lengths
+pub mod Opened

@@ -121,7 +121,7 @@ put-two row i q r h =
 pub length-put : (row : List ℕ) (i : ℕ) (qs : List ℕ) → i + length qs ≤ length row → length (put row i qs) ≡ length row
 length-put row i qs h = simp (length-append, length-take, length-drop) (omega arith)
 
-put-none : (row : List ℕ) (i : ℕ) → row ≡ put row i []
+pub put-none : (row : List ℕ) (i : ℕ) → row ≡ put row i []
 put-none row i = sym (ap (λ n. take i row ++ drop n row) (add-zero i) ∙ take-append-drop i row)
 
 -- Before turn t the extensions before it are written from place i on, and `next` is the place behind them.

@@ -7,17 +7,19 @@ use native.Mathlib.Omega.{arith}
 use lib.Dec.{eqb, ltb}
 use lib.ListN.{length, getD}
 use Rattle.std.specs.declared.option.Option.the-variants.{Some, None}
+use Rattle.std.specs.shelf.Lists.{map}
 use Rattle.std.specs.shelf.Maps.{nth}
 use Rattle.std.proofs.shelf.Maps.{nth-getD}
 use Rattle.std.proofs.shelf.Tests.{and-parts, ltb-true}
 use Rattle.selfid.specs.declared.node.Fields.{Fields}
+use Rattle.selfid.specs.declared.node.Node.{Node}
 use Rattle.selfid.specs.Reading.{speed-in}
 use Rattle.selfid.proofs.Digits.{speed-again}
 use Rattle.announce.specs.declared.described.Row.{Row}
 use Rattle.announce.specs.declared.described.RowPort.{RowPort}
 use Rattle.announce.specs.Announcing.{every, port-in-range, row-in-range}
 use Rattle.announce.specs.Description.{Has-fields, Fields-at, ports-at}
-use Rattle.announce.specs.Rows.{is-mark}
+use Rattle.announce.specs.Rows.{is-mark, Have-marks, Tells-node}
 use Rattle.announce.specs.Reach.{child-below, Children-below}
 use Rattle.announce.proofs.Every.{every-at, every-weaker}
 use Rattle.announce.proofs.Forests.{Ready}
@@ -68,6 +70,9 @@ no-row = record { link = false; contender = false; initiator = false; gap = 0; s
 -- Row i of the rows, and its ports.
 pub ports-here : (rows : List Row) (i : ℕ) (d : Row) → i < length rows → ports-at rows i ≡ getD rows i d .ports
 ports-here rows i d h = rw (nth-getD rows i d h, ports-at)
+
+pub node-here : (rows : List Row) (i : ℕ) (d : Row) (x : Node) → i < length rows → Tells-node (getD rows i d) x → Fields-at rows i (x .fields) × Have-marks (ports-at rows i) (x .marks)
+node-here rows i d x h t = (rw (nth-getD rows i d h, Fields-at) (t .fields), ap (map (λ p. p .mark)) (ports-here rows i d h) ∙ t .marks)
 
 pub ready : (rows : List Row) (i : ℕ) (d : Row) → every (row-in-range (length rows)) rows ≡ true → i < length rows → Ready rows i
 ready rows i d all h =
