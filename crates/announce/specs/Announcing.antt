@@ -66,10 +66,14 @@ pub data Announced (rows : List Row) (before : List ℕ) (a : Result ℕ Descrip
   no-room : No-room rows before a after → Announced rows before a after
   no-tree : No-tree rows before a after → Announced rows before a after
 
+-- Rows that are refused before their tree is looked at have that stop and leave the row `before` as it is.
+abbrev pub Outcome : Option DescriptionStop → List Row → List ℕ → Result ℕ DescriptionStop → List ℕ → Type 0
+Outcome (Some s) rows before a after = (a ≡ Err s) × (after ≡ before)
+Outcome None rows before a after = Announced rows before a after
+
 -- The rows are announced into the row `before`, which is then `after`; the stack rows have so many elements.
 abbrev pub Announce-call : List Row → (reach walk : ℕ) → List ℕ → Result ℕ DescriptionStop → List ℕ → Type 0
-Announce-call rows reach walk before a after =
-    elim (refused rows reach walk) [ Some s ↦ (a ≡ Err s) × (after ≡ before) | None ↦ Announced rows before a after ]
+Announce-call rows reach walk before a after = Outcome (refused rows reach walk) rows before a after
 
 -- Rows describe one cabling only.
 abbrev pub Describe-one-cabling : Type 0

@@ -2,13 +2,21 @@
 
 ghost use mathlib.Core.Bool.{true};
 ghost use mathlib.Core.Path.{_≡_};
+ghost use Prim.Native.Nat.{ℕ, _<_, _≤_};
 ghost use lib.ListN.{length};
-ghost use Rattle.announce.specs.Announcing.{every, port-in-range, row-in-range};
+ghost use Rattle.std.specs.declared.option.Option.the-variants.{Some, None};
+ghost use Rattle.std.specs.Orderings.{When};
+ghost use Rattle.std.specs.Results.{Cases as ByOk};
+ghost use Rattle.announce.specs.Announcing.{every, port-in-range, refused, row-in-range};
+ghost use Rattle.announce.specs.Description.{ports-at};
+ghost use Rattle.announce.specs.Reach.{In-order};
 ghost use Rattle.announce.specs.Rows.{is-mark, Have-marks, Tells-node};
 use crate::described::Row;
 use crate::described::RowPort;
+use crate::stop::DescriptionStop;
 use selfid::mark::Mark;
 use selfid::node::Fields;
+use selfid::node::NODE_LIMIT;
 use selfid::node::Node;
 use selfid::node::PORT_LIMIT;
 use selfid::speed::Speed;
@@ -76,4 +84,35 @@ pub(crate) fn node_of(row: &Row, rows: usize) -> Node
         fields,
         marks: marks_of(&row.ports),
     }
+}
+
+// Are all rows in range?
+fn all_in_range(rows: &[Row]) -> bool
+    ensures tells_if_all_are { λ r. ⌜ r ≡ every (row-in-range (length (now (rows .entry)))) (now (rows .entry)) ⌝ }
+    ensures each_has_all_ports { λ r. ⌜ When r ((i : ℕ) → i < length (now (rows .entry)) → length (ports-at (now (rows .entry)) i) ≡ 16) (Unit {0}) ⌝ }
+{
+    for row in rows {
+        if !in_range(row, rows.len()) {
+            return false;
+        }
+    }
+    true
+}
+
+// What refuses a description before its tree is looked at: how many rows there are, that a stack row is too short for them, or that something is out of range.
+pub(crate) fn check_rows(rows: &[Row], reach: usize, walk: usize) -> Result<(), DescriptionStop>
+    ensures is_the_first_that_applies { λ r. ⌜ ByOk r (λ _. refused (now (rows .entry)) reach walk ≡ None) (λ s. refused (now (rows .entry)) reach walk ≡ Some s) ⌝ }
+    ensures passes_rows_in_order { λ r. ⌜ ByOk r (λ _. In-order (now (rows .entry)) × (length (now (rows .entry)) ≤ reach) × (length (now (rows .entry)) ≤ walk)) (λ _. Unit {0}) ⌝ }
+{
+    let n = rows.len();
+    if n == 0 || n > NODE_LIMIT {
+        return Err(DescriptionStop::RowCount);
+    }
+    if reach < n || walk < n {
+        return Err(DescriptionStop::TooShort);
+    }
+    if !all_in_range(rows) {
+        return Err(DescriptionStop::OutOfRange);
+    }
+    Ok(())
 }
