@@ -1,4 +1,3 @@
-pub mod Tops
 pub mod Every
 pub mod Marked
 pub mod Times

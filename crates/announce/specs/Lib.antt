@@ -1,4 +1,3 @@
-pub mod Held
 pub mod Stops
 pub mod Description
 pub mod Announcing

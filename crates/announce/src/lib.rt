@@ -4,13 +4,14 @@ pub mod described;
 pub mod frame;
 mod node;
 mod rows;
-pub mod stack;
 pub mod stop;
 mod tree;
 mod writing;
 
 ghost use mathlib.Core.Path.{_≡_};
+ghost use Prim.Native.Nat.{_≤_};
 ghost use lib.ListN.{length};
+ghost use Rattle.std.specs.Results.{Cases as ByOk};
 ghost use Rattle.selfid.specs.Announcement.{Announcement-tells-the-cabling};
 ghost use Rattle.announce.specs.Announcing.{Announce-call, Describe-one-cabling};
 use crate::described::Row;
@@ -30,6 +31,7 @@ pub fn announce(
     words: &mut [u32],
 ) -> Result<usize, DescriptionStop>
     ensures announces_what_the_rows_describe { λ r. ⌜ Announce-call (now (rows .entry)) (length (now (reach .entry))) (length (now (walk .entry))) (now (words .entry)) r (now (words .exit)) ⌝ }
+    ensures answers_a_length_that_fits { λ r. ⌜ ByOk r (λ n. n ≤ length (now (words .entry))) (λ _. Unit {0}) ⌝ }
     ensures rows_describe_one_cabling { λ _. ⌜ Describe-one-cabling ⌝ }
     ensures announcement_tells_the_cabling { λ _. ⌜ Announcement-tells-the-cabling ⌝ }
 {

@@ -11,13 +11,13 @@ ghost use Rattle.std.specs.Results.{Cases as ByOk};
 ghost use Rattle.selfid.specs.Cabling.{Cabling, Proper};
 ghost use Rattle.announce.specs.declared.stop.DescriptionStop.the-variants.{NoTree};
 ghost use Rattle.announce.specs.Description.{Describes, times};
-ghost use Rattle.announce.specs.Held.{held, room};
+ghost use Rattle.stack.specs.Held.{held, room};
 ghost use Rattle.announce.specs.Reach.{children, onto, hit, Children-below, Waiting, Reached-all, In-order, ups-of, ups-due, Placed, Described};
 use crate::described::Row;
 use crate::described::RowPort;
-use crate::stack::Stack;
 use crate::stop::DescriptionStop;
 use selfid::node::NODE_LIMIT;
+use stack::Stack;
 
 // Puts the rows of the children on the stack. A row that was reached before is refused: no tree has it.
 fn reach_children(

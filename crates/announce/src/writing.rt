@@ -7,7 +7,7 @@ ghost use lib.ListN.{length, drop};
 ghost use Rattle.selfid.specs.Cabling.{Cabling};
 ghost use Rattle.selfid.specs.Announcement.{announcement};
 ghost use Rattle.announce.specs.Description.{Describes};
-ghost use Rattle.announce.specs.Held.{held, room};
+ghost use Rattle.stack.specs.Held.{held, room};
 ghost use Rattle.announce.specs.Reach.{In-order, Described};
 ghost use Rattle.announce.specs.Writing.{put, down-from};
 use crate::described::Row;
@@ -16,7 +16,7 @@ use crate::frame::Frame;
 use crate::node::count_packets;
 use crate::node::write_node;
 use crate::rows::node_of;
-use crate::stack::Stack;
+use stack::Stack;
 
 // A down port that was found: its child's row, and the port behind it.
 #[derive(Clone, Copy)]

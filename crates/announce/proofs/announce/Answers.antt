@@ -19,6 +19,7 @@ returns-in-Break-check-rows c =
     let first = c .in-Break-check-rows .ensures tt .is-the-first-that-applies in
     record {
       announces-what-the-rows-describe = subst (λ o. Outcome o (c .args .rows .now) words (c .from-residual .result) words) (sym first) (p .1 ∙ ap Err (p .2), refl);
+      answers-a-length-that-fits = rw (p .1) tt;
       rows-describe-one-cabling = describe-one-cabling;
       announcement-tells-the-cabling = announcement-tells-the-cabling;
     }
@@ -32,6 +33,7 @@ returns-in-Break-check-tree c =
     let (stop, none) = c .in-Break-check-tree .ensures tt .refuses-what-describes-none in
     record {
       announces-what-the-rows-describe = subst (λ o. Outcome o (c .args .rows .now) words r words) (sym first) (no-tree (record { none = none; answers = p .1 ∙ ap Err (p .2 ∙ stop); leaves = refl }));
+      answers-a-length-that-fits = rw (p .1) tt;
       rows-describe-one-cabling = describe-one-cabling;
       announcement-tells-the-cabling = announcement-tells-the-cabling;
     }
@@ -46,6 +48,7 @@ returns-then-words-words-needed c =
       announces-what-the-rows-describe =
           subst (λ o. Outcome o (c .args .rows .now) words (Err TooShort) words) (sym first)
           (no-room (record { cabling = known .cabling; describes = known .describes; proper = known .proper; short = omega (arith, long, c .if-words-words-needed .taken); answers = refl; leaves = refl }));
+      answers-a-length-that-fits = tt;
       rows-describe-one-cabling = describe-one-cabling;
       announcement-tells-the-cabling = announcement-tells-the-cabling;
     }
@@ -69,6 +72,7 @@ returns c =
             answers = ap Ok (c .write-all .ensures .is-its-length (known .cabling) (known .describes));
             leaves = row ∙ ap (λ n. announcement (known .cabling) ++ drop n words) (zero-add (length (announcement (known .cabling))));
           }));
+      answers-a-length-that-fits = omega (arith, long, c .if-words-words-needed .left, c .write-all .ensures .is-its-length (known .cabling) (known .describes));
       rows-describe-one-cabling = describe-one-cabling;
       announcement-tells-the-cabling = announcement-tells-the-cabling;
     }

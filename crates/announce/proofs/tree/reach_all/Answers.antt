@@ -3,7 +3,7 @@ use mathlib.Core.List.{[], _∷_}
 use native.Mathlib.Omega.{arith}
 use lib.ListN.{length}
 use Rattle.std.proofs.shelf.Results.{err-from-errBy}
-use Rattle.announce.specs.Held.{held, room}
+use Rattle.stack.specs.Held.{held, room}
 use Rattle.announce.proofs.Told.{no-row, children-here}
 use Rattle.announce.proofs.Waits.{Walking, begun, next-small, taken-off, put-on, falls, no-cabling, ended}
 use Rattle.announce.proofs.tree.reach_all.Needs as need

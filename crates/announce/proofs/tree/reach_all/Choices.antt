@@ -1,7 +1,7 @@
 use mathlib.Core.Path.{_≡_}
 use Prim.Native.Nat.{_+_}
 use lib.ListN.{length}
-use Rattle.announce.specs.Held.{held, room}
+use Rattle.stack.specs.Held.{held, room}
 use Rattle.announce.proofs.Waits.{Walking, unreached}
 use Rattle.announce.proofs.tree.reach_all.Given as given
 

@@ -7,9 +7,8 @@ use lib.ListN.{length, drop, length-set}
 use Rattle.std.proofs.shelf.Lists.{drop-more, drop-all}
 use Rattle.selfid.specs.Packets.{bit}
 use Rattle.announce.specs.declared.described.RowPort.{RowPort}
-use Rattle.announce.specs.Held.{held, room}
+use Rattle.stack.specs.Held.{held, room}
 use Rattle.announce.specs.Reach.{hit}
-use Rattle.announce.proofs.Tops.{length-held}
 use Rattle.announce.proofs.Reaching.{Half-reached, child-small, pass, twice, has-room, take-on}
 use Rattle.announce.proofs.tree.reach_children.Needs as need
 

@@ -7,7 +7,7 @@ use Rattle.std.specs.declared.option.Option.the-variants.{Some, None}
 use Rattle.selfid.specs.Cabling.{Cabling}
 use Rattle.announce.specs.Announcing.{row-in-range}
 use Rattle.announce.specs.Description.{Describes}
-use Rattle.announce.specs.Held.{held}
+use Rattle.stack.specs.Held.{held}
 use Rattle.announce.proofs.Every.{every-at}
 use Rattle.announce.proofs.Told.{no-row}
 use Rattle.announce.proofs.Opened.{Writing, begins, descends, node-next, node-room, ends, frame-row, frames-few, looked}

@@ -3,7 +3,7 @@ use Prim.Native.Nat.{_+_, _*_, _-_}
 use lib.ListN.{length}
 use Rattle.selfid.specs.Cabling.{Cabling}
 use Rattle.announce.specs.Description.{Describes}
-use Rattle.announce.specs.Held.{held, room}
+use Rattle.stack.specs.Held.{held, room}
 use Rattle.announce.proofs.Opened.{Writing}
 use Rattle.announce.proofs.writing.write_all.Given as given
 

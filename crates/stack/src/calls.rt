@@ -6,7 +6,7 @@ ghost use Prim.Native.Nat.{_<_};
 ghost use lib.ListN.{length};
 ghost use Rattle.std.specs.Options.{Cases as BySome};
 ghost use Rattle.std.specs.Results.{Cases as ByOk};
-ghost use Rattle.announce.specs.Held.{held, room};
+ghost use Rattle.stack.specs.Held.{held, room};
 use super::Stack;
 
 // The stack has no room for another element.

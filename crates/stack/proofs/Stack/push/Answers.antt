@@ -2,8 +2,8 @@ use borrow.Author.Needs.{needs}
 use mathlib.Core.Path.{refl}
 use native.Mathlib.Omega.{arith}
 use Rattle.std.proofs.shelf.Lists.{length-set}
-use Rattle.announce.proofs.Tops.{top-put, length-held}
-use Rattle.announce.proofs.stack.Stack.push.Needs as need
+use Rattle.stack.proofs.Tops.{top-put, length-held}
+use Rattle.stack.proofs.Stack.push.Needs as need
 
 pub returns-then-self : need.returns-then-self
 returns-then-self g c =

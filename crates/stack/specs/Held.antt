@@ -2,7 +2,7 @@
 use mathlib.Core.List.{List, reverse}
 use Prim.Native.Nat.{ℕ}
 use lib.ListN.{length, take}
-use Rattle.announce.specs.declared.stack.Stack.{Stack}
+use Rattle.stack.specs.declared.Stack.{Stack}
 
 module _ {T : Type 0} where
   abbrev pub held : Stack T → List T
