@@ -31,11 +31,10 @@ fn next_down(ports: &[RowPort], from: usize) -> Option<Found>
     ensures is_the_first_from_there_on { λ r. ⌜ r ≡ down-from from (drop from (now (ports .entry))) ⌝ }
 {
     for port in from..ports.len() {
-        if ports[port].mark == 3 {
-            return Some(Found {
-                child: ports[port].child,
-                next: (port + 1) as u8,
-            });
+        let RowPort { mark, child } = ports[port];
+        if mark == 3 {
+            let next = (port + 1) as u8;
+            return Some(Found { child, next });
         }
     }
     None

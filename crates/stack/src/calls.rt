@@ -28,11 +28,12 @@ impl<'a, T: Copy> Stack<'a, T> {
         ensures puts_it_on_top { λ r. ⌜ ByOk r (λ _. held (now (self .exit)) ≡ element ∷ held (now (self .entry))) (λ _. held (now (self .exit)) ≡ held (now (self .entry))) ⌝ }
         ensures keeps_the_room { λ _. ⌜ room (now (self .exit)) ≡ room (now (self .entry)) ⌝ }
     {
-        if self.len >= self.row.len() {
+        let place = self.len;
+        if place >= self.row.len() {
             return Err(Full);
         }
-        self.row[self.len] = element;
-        self.len += 1;
+        self.row[place] = element;
+        self.len = place + 1;
         Ok(())
     }
 

@@ -13,12 +13,12 @@ use Rattle.announce.proofs.writing.next_down.Needs as need
 abbrev no-port : RowPort
 no-port = record { mark = 0; child = 0 }
 
-pub returns-then-ports-port-eq3 : need.returns-then-ports-port-eq3
-returns-then-ports-port-eq3 c =
+pub returns-then-mark-eq3 : need.returns-then-mark-eq3
+returns-then-mark-eq3 c =
     let ports = c .args .ports .now in
     let i = c .loop-port .port in
     let here = at-drop-more (down-from i) ports i no-port (c .loop-port-test .taken) in
-    let found = ap (λ b. cond b (Some (record { child = getD ports i no-port .child; next = i + 1 })) (down-from (i + 1) (drop (i + 1) ports))) (eq-eqb (getD ports i no-port .mark) 3 (c .if-ports-port-eq3 .taken)) in
+    let found = ap (λ b. cond b (Some (record { child = getD ports i no-port .child; next = i + 1 })) (down-from (i + 1) (drop (i + 1) ports))) (eq-eqb (getD ports i no-port .mark) 3 (c .if-mark-eq3 .taken)) in
     record { is-the-first-from-there-on = sym (here ∙ found) ∙ c .loop-port .inv }
 
 pub loop-port-again : need.loop-port-again
@@ -26,7 +26,7 @@ loop-port-again c =
     let ports = c .args .ports .now in
     let i = c .loop-port .port in
     let here = at-drop-more (down-from i) ports i no-port (c .loop-port-test .taken) in
-    let passed = ap (λ b. cond b (Some (record { child = getD ports i no-port .child; next = i + 1 })) (down-from (i + 1) (drop (i + 1) ports))) (ne-eqb (getD ports i no-port .mark) 3 (c .if-ports-port-eq3 .left)) in
+    let passed = ap (λ b. cond b (Some (record { child = getD ports i no-port .child; next = i + 1 })) (down-from (i + 1) (drop (i + 1) ports))) (ne-eqb (getD ports i no-port .mark) 3 (c .if-mark-eq3 .left)) in
     sym (here ∙ passed) ∙ c .loop-port .inv
 
 pub returns : need.returns

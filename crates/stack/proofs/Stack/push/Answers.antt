@@ -5,8 +5,8 @@ use Rattle.std.proofs.shelf.Lists.{length-set}
 use Rattle.stack.proofs.Tops.{top-put, length-held}
 use Rattle.stack.proofs.Stack.push.Needs as need
 
-pub returns-then-self : need.returns-then-self
-returns-then-self g c =
+pub returns-then-place-self : need.returns-then-place
+returns-then-place-self g c =
     let s = c .args .self .now in
     let e = length-held (s .row .now) (s .len) (s .«within_the_row») in
     record { refuses-only-when-full = omega arith; puts-it-on-top = refl; keeps-the-room = refl }
