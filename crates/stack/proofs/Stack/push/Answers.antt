@@ -5,7 +5,7 @@ use Rattle.std.proofs.shelf.Lists.{length-set}
 use Rattle.stack.proofs.Tops.{top-put, length-held}
 use Rattle.stack.proofs.Stack.push.Needs as need
 
-pub returns-then-place-self : need.returns-then-place
+pub returns-then-place-self : need.returns-then-place-self
 returns-then-place-self g c =
     let s = c .args .self .now in
     let e = length-held (s .row .now) (s .len) (s .«within_the_row») in
