@@ -1,11 +1,10 @@
 -- Rows that wait, with the cablings that they describe: a node taken off makes room for its children.
 use mathlib.Core.Path.{_≡_, refl, sym, ap, _∙_}
-use mathlib.Core.Bool.{Bool, true, false, cond, _&&_}
+use mathlib.Core.Bool.{true, false, cond}
 use mathlib.Core.List.{List, [], _∷_, _++_}
 use Prim.Native.Nat.{ℕ, zero, suc, _+_, _<_, _≤_}
 use native.Mathlib.Omega.{arith}
-use lib.Dec.{eqb, ltb}
-use lib.ListN.{length}
+use lib.Dec.{ltb}
 use Rattle.std.proofs.shelf.Tests.{eq-eqb, ne-eqb, ltb-true, and-parts}
 use Rattle.selfid.specs.declared.node.Fields.{Fields}
 use Rattle.selfid.specs.Marks.{mark-code}
@@ -14,7 +13,7 @@ use Rattle.selfid.proofs.Tells.{leads-to-none}
 use Rattle.announce.specs.declared.described.Row.{Row}
 use Rattle.announce.specs.declared.described.RowPort.{RowPort}
 use Rattle.announce.specs.Announcing.{every}
-use Rattle.announce.specs.Description.{Fields-at, ports-at, Describes-at, Describe-ports, rows-of, rows-below, times}
+use Rattle.announce.specs.Description.{is-down, Fields-at, ports-at, Describes-at, Describe-ports, rows-of, rows-below, times}
 use Rattle.announce.specs.Rows.{is-mark}
 use Rattle.announce.specs.Reach.{children, onto}
 use Rattle.announce.proofs.Times.{is, times-append}
@@ -38,12 +37,19 @@ below rows (i ∷ is) (c ∷ cs) = under rows i c ++ below rows is cs
 pub times-rows : (rows : List Row) (k i : ℕ) (c : Cabling) → times k (rows-of rows i c) ≡ is k i + times k (under rows i c)
 times-rows rows k i (node x ps) = refl
 
--- The children of a port that is not down, and of one that is.
-pub children-other : (p : RowPort) (rest : List RowPort) → (p .mark ≡ 3 → ⊥) → children (p ∷ rest) ≡ children rest
-children-other p rest h = ap (λ b. cond b (p .child ∷ children rest) (children rest)) (ne-eqb (p .mark) 3 h)
+-- A port with the mark of one without a child is not down; one marked down is.
+pub not-down : (k : Childless) (p : RowPort) → p .mark ≡ mark-code (childless-mark k) → is-down p ≡ false
+not-down k p e = ne-eqb (p .mark) 3 (λ h. leads-to-none k (sym e ∙ h))
 
-pub children-down : (p : RowPort) (rest : List RowPort) → p .mark ≡ 3 → children (p ∷ rest) ≡ p .child ∷ children rest
-children-down p rest h = ap (λ b. cond b (p .child ∷ children rest) (children rest)) (eq-eqb (p .mark) 3 h)
+pub marked-down : (p : RowPort) → p .mark ≡ 3 → is-down p ≡ true
+marked-down p e = eq-eqb (p .mark) 3 e
+
+-- The children of a port that is not down, and of one that is.
+pub children-other : (p : RowPort) (rest : List RowPort) → is-down p ≡ false → children (p ∷ rest) ≡ children rest
+children-other p rest h = ap (λ b. cond b (p .child ∷ children rest) (children rest)) h
+
+pub children-down : (p : RowPort) (rest : List RowPort) → is-down p ≡ true → children (p ∷ rest) ≡ p .child ∷ children rest
+children-down p rest h = ap (λ b. cond b (p .child ∷ children rest) (children rest)) h
 
 module _ (rows : List Row) where
   -- The cablings below some ports, each described by a child's row.
@@ -56,11 +62,11 @@ module _ (rows : List Row) where
   hanging end [] d = record { cablings = []; forest = tt; counts = λ k. refl }
   hanging end (p ∷ rest) d = absurd d
   hanging (plain k ps) [] d = absurd d
-  hanging (plain k ps) (p ∷ rest) d = rw (children-other p rest (λ e. leads-to-none k (sym (d .0) ∙ e))) (hanging ps rest (d .1))
+  hanging (plain k ps) (p ∷ rest) d = rw (children-other p rest (not-down k p (d .0))) (hanging ps rest (d .1))
   hanging (down c ps) [] d = absurd d
   hanging (down c ps) (p ∷ rest) d =
       let h = hanging ps rest (d .2) in
-      rw (children-down p rest (d .0))
+      rw (children-down p rest (marked-down p (d .0)))
       (record {
         cablings = c ∷ h .cablings;
         forest = (d .1, h .forest);
@@ -76,7 +82,7 @@ module _ (rows : List Row) where
   -- A port that is not down is put before ports that are hung, and one that is.
   hang-plain : (k : Childless) (p : RowPort) (rest : List RowPort) (cs : List Cabling) → p .mark ≡ mark-code (childless-mark k) → Forest rows (children (p ∷ rest)) cs → (Forest rows (children rest) cs → Hung rest cs) → Hung (p ∷ rest) cs
   hang-plain k p rest cs m forest ih =
-      let e = children-other p rest (λ d. leads-to-none k (sym m ∙ d)) in
+      let e = children-other p rest (not-down k p m) in
       let h = ih (rw e at forest) in
       record { hung = plain k (h .hung); describe = (m, h .describe); counts = λ i. rw e (h .counts i) }
 
@@ -87,14 +93,14 @@ module _ (rows : List Row) where
       record {
         hung = down c (h .hung);
         describe = (e, forest .0, h .describe);
-        counts = λ k. rw (children-down p rest e) (omega (arith, times-append k (rows-of rows (p .child) c) (rows-below rows (h .hung) rest), times-rows rows k (p .child) c, h .counts k, times-append k (under rows (p .child) c) (below rows (children rest) cs)));
+        counts = λ k. rw (children-down p rest (marked-down p e)) (omega (arith, times-append k (rows-of rows (p .child) c) (rows-below rows (h .hung) rest), times-rows rows k (p .child) c, h .counts k, times-append k (under rows (p .child) c) (below rows (children rest) cs)));
       }
 
   hang-port : (m : ℕ) (p : RowPort) (rest : List RowPort) (cs : List Cabling) → p .mark ≡ m → m < 4 → Forest rows (children (p ∷ rest)) cs → ((cs : List Cabling) → Forest rows (children rest) cs → Hung rest cs) → Hung (p ∷ rest) cs
   hang-port zero p rest cs e l f ih = hang-plain absent p rest cs e f (ih cs)
   hang-port (suc zero) p rest cs e l f ih = hang-plain «open» p rest cs e f (ih cs)
   hang-port (suc (suc zero)) p rest cs e l f ih = hang-plain up p rest cs e f (ih cs)
-  hang-port (suc (suc (suc zero))) p rest cs e l f ih = hang-down p rest cs e (rw (children-down p rest e) at f) ih
+  hang-port (suc (suc (suc zero))) p rest cs e l f ih = hang-down p rest cs e (rw (children-down p rest (marked-down p e)) at f) ih
   hang-port (suc (suc (suc (suc n)))) p rest cs e l f ih = absurd (omega arith)
 
   pub hang : (ports : List RowPort) (cs : List Cabling) → every is-mark ports ≡ true → Forest rows (children ports) cs → Hung ports cs

@@ -1,13 +1,12 @@
 -- How many quadlets rows announce: each node sends the packets that its row tells of.
-use mathlib.Core.Path.{_≡_, refl, sym, ap, _∙_}
+use mathlib.Core.Path.{_≡_, refl, ap, _∙_}
 use mathlib.Core.Bool.{Bool, true, false, cond}
-use mathlib.Core.List.{List, [], _∷_, _++_}
-use Prim.Native.Nat.{ℕ, zero, suc, _+_, _*_, _<_, _≤_}
+use mathlib.Core.List.{List, [], _∷_}
+use Prim.Native.Nat.{ℕ, zero, suc, _+_, _*_, _≤_}
 use native.Mathlib.Omega.{arith}
 use lib.ListN.{length, drop, length-append}
 use Rattle.std.specs.shelf.Lists.{map}
 use Rattle.selfid.specs.declared.mark.Mark.{Mark}
-use Rattle.selfid.specs.declared.node.Fields.{Fields}
 use Rattle.selfid.specs.Marks.{present}
 use Rattle.selfid.specs.Reading.{mark-in}
 use Rattle.selfid.specs.Packets.{extension-word}

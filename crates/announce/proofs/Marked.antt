@@ -1,23 +1,19 @@
 -- Marks by their codes.
 use mathlib.Core.Path.{_≡_, refl, sym, ap, ap₂, _∙_}
-use mathlib.Core.Bool.{true}
 use mathlib.Core.List.{List, [], _∷_, _++_}
-use Prim.Native.Nat.{ℕ, _+_, _<_, _≤_}
+use Prim.Native.Nat.{ℕ, _+_, _<_}
 use native.Mathlib.Omega.{arith}
-use lib.Dec.{ltb}
 use lib.ListN.{length, getD, take, set}
 use Rattle.std.specs.declared.option.Option.the-variants.{Some, None}
 use Rattle.std.specs.shelf.Lists.{map}
 use Rattle.std.proofs.shelf.Lists.{map-push, take-more, take-more-set}
-use Rattle.std.proofs.shelf.Tests.{ltb-true}
 use Rattle.std.proofs.shelf.Ways.{tells}
 use Rattle.selfid.specs.declared.mark.Mark.{Mark}
-use Rattle.selfid.specs.declared.mark.Mark.the-variants.{Absent, Open, Up, Down}
 use Rattle.selfid.specs.Marks.{mark-code, mark-of}
 use Rattle.selfid.specs.Reading.{mark-in}
 use Rattle.selfid.proofs.Digits.{mark-back}
 use Rattle.announce.specs.declared.described.RowPort.{RowPort}
-use Rattle.announce.specs.Rows.{is-mark, Have-marks}
+use Rattle.announce.specs.Rows.{Have-marks}
 
 -- Lists of marks are known by their codes.
 pub codes-back : (ms : List Mark) → map mark-in (map mark-code ms) ≡ ms

@@ -1,31 +1,28 @@
 -- The walk that writes an announcement: what is written, and what the open nodes are still to write.
 use mathlib.Core.Path.{_≡_, refl, sym, ap, ap₂, subst, _∙_}
-use mathlib.Core.Bool.{Bool, true, false, cond}
+use mathlib.Core.Bool.{true, false, cond}
 use mathlib.Core.List.{List, [], _∷_, _++_, append-assoc, append-nil}
-use Prim.Native.Nat.{ℕ, zero, suc, _+_, _*_, _-_, _<_, _≤_}
+use Prim.Native.Nat.{ℕ, suc, _+_, _<_, _≤_}
 use native.Mathlib.Omega.{arith}
-use lib.Dec.{eqb}
 use lib.ListN.{length, getD, drop, length-append}
 use Rattle.std.specs.declared.option.Option.{Option}
 use Rattle.std.specs.declared.option.Option.the-variants.{Some, None}
 use Rattle.std.proofs.shelf.Lists.{drop-drop}
-use Rattle.std.proofs.shelf.Tests.{eq-eqb, ne-eqb}
 use Rattle.selfid.specs.declared.mark.Mark.{Mark}
 use Rattle.selfid.specs.declared.node.Fields.{Fields}
 use Rattle.selfid.specs.declared.node.Node.{Node}
-use Rattle.selfid.specs.Marks.{mark-code}
 use Rattle.selfid.specs.Packets.{with-inverses}
 use Rattle.selfid.specs.Nodes.{node-packets}
-use Rattle.selfid.specs.Cabling.{Childless, childless-mark, Cabling, node, Ports, end, plain, down, marks-of, size, size-below}
+use Rattle.selfid.specs.Cabling.{Cabling, node, Ports, end, plain, down, marks-of, size, size-below}
 use Rattle.selfid.specs.Announcement.{packets-from, packets-below, packets, announcement}
-use Rattle.selfid.proofs.Tells.{leads-to-none}
 use Rattle.announce.specs.declared.described.Row.{Row}
 use Rattle.announce.specs.declared.described.RowPort.{RowPort}
 use Rattle.announce.specs.declared.frame.Frame.{Frame}
 use Rattle.announce.specs.declared.writing.Found.{Found}
-use Rattle.announce.specs.Description.{Has-fields, Fields-at, ports-at, Describes-at, Describe-ports, Describes}
+use Rattle.announce.specs.Description.{is-down, Fields-at, ports-at, Describes-at, Describe-ports, Describes}
 use Rattle.announce.specs.Rows.{Have-marks, Tells-node}
 use Rattle.announce.specs.Writing.{put, down-from, node-quadlets}
+use Rattle.announce.proofs.Forests.{not-down, marked-down}
 use Rattle.announce.proofs.Told.{no-row, ports-here, node-here}
 use Rattle.announce.proofs.Marked.{same-codes}
 use Rattle.announce.proofs.Putting.{length-pairs, pairs-append, put-more, put-none, length-put}
@@ -76,18 +73,18 @@ few-open rows (f ∷ fs) [] a = absurd a
 few-open rows (f ∷ fs) (o ∷ os) a = omega (arith, few-open rows fs os (a .1))
 
 -- The ports are looked through for the next down port. None is there:
-down-other : (p : RowPort) (ports : List RowPort) (i : ℕ) → (p .mark ≡ 3 → ⊥) → down-from i (p ∷ ports) ≡ down-from (i + 1) ports
-down-other p ports i h = ap (λ b. cond b (Some (record { child = p .child; next = i + 1 })) (down-from (i + 1) ports)) (ne-eqb (p .mark) 3 h)
+pub down-other : (p : RowPort) (ports : List RowPort) (i : ℕ) → is-down p ≡ false → down-from i (p ∷ ports) ≡ down-from (i + 1) ports
+down-other p ports i h = ap (λ b. cond b (Some (record { child = p .child; next = i + 1 })) (down-from (i + 1) ports)) h
 
-down-here : (p : RowPort) (ports : List RowPort) (i : ℕ) → p .mark ≡ 3 → down-from i (p ∷ ports) ≡ Some (record { child = p .child; next = i + 1 })
-down-here p ports i h = ap (λ b. cond b (Some (record { child = p .child; next = i + 1 })) (down-from (i + 1) ports)) (eq-eqb (p .mark) 3 h)
+pub down-here : (p : RowPort) (ports : List RowPort) (i : ℕ) → is-down p ≡ true → down-from i (p ∷ ports) ≡ Some (record { child = p .child; next = i + 1 })
+down-here p ports i h = ap (λ b. cond b (Some (record { child = p .child; next = i + 1 })) (down-from (i + 1) ports)) h
 
 no-down : (rows : List Row) (ps : Ports) (ports : List RowPort) (i : ℕ) → Describe-ports rows ps ports → down-from i ports ≡ None → (size-below ps ≡ 0) × ((n : ℕ) → packets-below n ps ≡ [])
 no-down rows end ports i d e = (refl, λ n. refl)
 no-down rows (plain k ps) [] i d e = absurd d
-no-down rows (plain k ps) (p ∷ ports) i d e = no-down rows ps ports (i + 1) (d .1) (sym (down-other p ports i (λ h. leads-to-none k (sym (d .0) ∙ h))) ∙ e)
+no-down rows (plain k ps) (p ∷ ports) i d e = no-down rows ps ports (i + 1) (d .1) (sym (down-other p ports i (not-down k p (d .0))) ∙ e)
 no-down rows (down c ps) [] i d e = absurd d
-no-down rows (down c ps) (p ∷ ports) i d e = absurd (let f = sym (down-here p ports i (d .0)) ∙ e in let z : _≡_ {A = ℕ} 0 1 = cc in omega arith)
+no-down rows (down c ps) (p ∷ ports) i d e = absurd (let f = sym (down-here p ports i (marked-down p (d .0))) ∙ e in let z : _≡_ {A = ℕ} 0 1 = cc in omega arith)
 
 -- One is there: the child's cabling, and the ports behind it.
 pub record Next (rows : List Row) (ps : Ports) (ports : List RowPort) (i : ℕ) (f : Found) : Type 0 where
@@ -105,11 +102,11 @@ next-child rows end [] i f d e = absurd (let z : _≡_ {A = ℕ} 0 1 = cc in ome
 next-child rows end (p ∷ ports) i f d e = absurd d
 next-child rows (plain k ps) [] i f d e = absurd d
 next-child rows (plain k ps) (p ∷ ports) i f d e =
-    let n = next-child rows ps ports (i + 1) f (d .1) (sym (down-other p ports i (λ h. leads-to-none k (sym (d .0) ∙ h))) ∙ e) in
+    let n = next-child rows ps ports (i + 1) f (d .1) (sym (down-other p ports i (not-down k p (d .0))) ∙ e) in
     record { child = n .child; behind = n .behind; passed = suc (n .passed); place = omega (arith, n .place); describes = n .describes; others = n .others; sizes = n .sizes; sends = n .sends }
 next-child rows (down c ps) [] i f d e = absurd d
 next-child rows (down c ps) (p ∷ ports) i f d e =
-    let g : Some (record { child = p .child; next = i + 1 }) ≡ Some f = sym (down-here p ports i (d .0)) ∙ e in
+    let g : Some (record { child = p .child; next = i + 1 }) ≡ Some f = sym (down-here p ports i (marked-down p (d .0))) ∙ e in
     let h : record { child = p .child; next = i + 1 } ≡ f = cc in
     record { child = c; behind = ps; passed = 0; place = sym (ap (λ r. r .next) h); describes = subst (λ j. Describes-at rows j c) (ap (λ r. r .child) h) (d .1); others = d .2; sizes = refl; sends = λ n. refl }
 

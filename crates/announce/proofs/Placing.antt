@@ -1,20 +1,18 @@
 -- Rows that are each reached once, with the up marks that are due, describe a proper cabling; and no other rows do.
-use mathlib.Core.Path.{_≡_, refl, sym, ap, _∙_}
-use mathlib.Core.Bool.{Bool, true, false, cond}
-use mathlib.Core.List.{List, [], _∷_, _++_}
+use mathlib.Core.Path.{_≡_, refl, sym, _∙_}
+use mathlib.Core.Bool.{Bool}
+use mathlib.Core.List.{List, [], _∷_}
 use mathlib.Core.Logic.{_⊎_, inl, inr}
 use Prim.Native.Nat.{ℕ, zero, suc, _+_, _<_, _≤_}
 use native.Mathlib.Omega.{arith}
 use lib.ListN.{length}
 use Rattle.std.proofs.shelf.Tests.{cases-eq, cases-lt}
-use Rattle.selfid.specs.Marks.{ups}
-use Rattle.selfid.specs.Nodes.{port-limit}
-use Rattle.selfid.specs.Cabling.{Cabling, node, Ports, end, plain, down, marks-of, size, Sound, Sound-below, Proper}
+use Rattle.selfid.specs.Cabling.{Cabling, node, Ports, end, plain, down, size, Sound, Sound-below, Proper}
 use Rattle.announce.specs.declared.described.Row.{Row}
 use Rattle.announce.specs.declared.described.RowPort.{RowPort}
 use Rattle.announce.specs.Description.{ports-at, Describes-at, Describe-ports, rows-of, rows-below, times, Describes}
-use Rattle.announce.specs.Reach.{hit, Reached-all, In-order, ups-of, ups-due, Placed}
-use Rattle.announce.proofs.Times.{is, is-same, is-other, times-append, total, total-same, total-one, length-total}
+use Rattle.announce.specs.Reach.{Reached-all, In-order, ups-of, ups-due, Placed}
+use Rattle.announce.proofs.Times.{is, is-same, is-other, times-append, total-same, total-one, length-total}
 use Rattle.announce.proofs.Forests.{under, times-rows}
 use Rattle.announce.proofs.Trees.{row-small, length-told, ups-told, rows-small, rows-size}
 

@@ -7,13 +7,12 @@ use native.Mathlib.Nat.{add-zero}
 use native.Mathlib.Numerals.{add-one}
 use native.Mathlib.Omega.{arith}
 use lib.ListN.{length, getD, take, drop, set, length-append, length-take, length-drop}
-use Rattle.std.proofs.shelf.Lists.{set-split, take-append-drop, take-at, drop-at, drop-drop, length-take-le, take-append-le, drop-append-le, getD-drop, set-append-right, length-set}
+use Rattle.std.proofs.shelf.Lists.{set-split, take-append-drop, take-at, drop-at, drop-drop, length-take-le, getD-drop, length-set}
 use Rattle.selfid.specs.declared.mark.Mark.{Mark}
 use Rattle.selfid.specs.declared.mark.Mark.the-variants.{Absent, Open, Up, Down}
-use Rattle.selfid.specs.declared.node.Fields.{Fields}
 use Rattle.selfid.specs.Marks.{mark-code, present}
-use Rattle.selfid.specs.Packets.{code-at, zero-word, extension-word, inverse-of, with-inverses}
-use Rattle.selfid.specs.Nodes.{extensions, node-packets}
+use Rattle.selfid.specs.Packets.{code-at, extension-word, inverse-of, with-inverses}
+use Rattle.selfid.specs.Nodes.{extensions}
 use Rattle.announce.specs.Writing.{put}
 
 -- A mark more in front.

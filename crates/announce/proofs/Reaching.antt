@@ -1,17 +1,17 @@
 -- One port after the other: its child is put on the stack and is reached.
-use mathlib.Core.Path.{_≡_, refl, sym, ap, _∙_}
-use mathlib.Core.Bool.{Bool, true, false, cond, not, _||_}
-use mathlib.Core.List.{List, [], _∷_}
+use mathlib.Core.Path.{_≡_, sym, ap, _∙_}
+use mathlib.Core.Bool.{Bool, true, false, not, _||_}
+use mathlib.Core.List.{List, _∷_}
 use mathlib.Core.Logic.{_⊎_, inl, inr}
 use Prim.Native.Nat.{ℕ, _+_, _<_, _≤_}
 use native.Mathlib.Omega.{arith}
 use lib.Dec.{ltb}
 use lib.ListN.{length, getD, set}
 use Rattle.std.proofs.shelf.Lists.{getD-set-same, getD-set-other}
-use Rattle.std.proofs.shelf.Tests.{cases-eq, eq-eqb, ltb-true}
+use Rattle.std.proofs.shelf.Tests.{cases-eq, ltb-true}
 use Rattle.selfid.specs.Packets.{bit}
 use Rattle.announce.specs.declared.described.RowPort.{RowPort}
-use Rattle.announce.specs.Description.{times}
+use Rattle.announce.specs.Description.{is-down, times}
 use Rattle.announce.specs.Reach.{children, onto, hit, child-below, Children-below, Waiting}
 use Rattle.announce.proofs.Every.{every-at}
 use Rattle.announce.proofs.Times.{is, is-same, is-other, few}
@@ -24,11 +24,11 @@ pub record Half-reached (n : ℕ) (left ports : List RowPort) (held : List ℕ) 
   pub hits : (i : ℕ) → hit reached i + times i (children left) ≡ hit reached₀ i + times i (children ports)
 
 -- The child of a down port is one of the rows.
-pub child-small : (n : ℕ) (ports : List RowPort) (i : ℕ) (d : RowPort) → Children-below n ports → i < length ports → getD ports i d .mark ≡ 3 → getD ports i d .child < n
+pub child-small : (n : ℕ) (ports : List RowPort) (i : ℕ) (d : RowPort) → Children-below n ports → i < length ports → is-down (getD ports i d) ≡ true → getD ports i d .child < n
 child-small n ports i d all h down =
     let p = getD ports i d in
     let e : child-below n p ≡ true = every-at (child-below n) ports i d all h in
-    let f : (not true || ltb (p .child) n) ≡ true = ap (λ b. not b || ltb (p .child) n) (sym (eq-eqb (p .mark) 3 down)) ∙ e in
+    let f : (not true || ltb (p .child) n) ≡ true = ap (λ b. not b || ltb (p .child) n) (sym down) ∙ e in
     ltb-true (p .child) n f
 
 -- A row that was not reached is reached now.
@@ -47,12 +47,12 @@ hit-small reached i = go (getD reached i false)
     go false = omega arith
 
 module _ (n : ℕ) (p : RowPort) (left ports : List RowPort) (held : List ℕ) (reached : List Bool) (held₀ : List ℕ) (reached₀ : List Bool) (h : Half-reached n (p ∷ left) ports held reached held₀ reached₀) where
-  pub pass : (p .mark ≡ 3 → ⊥) → Half-reached n left ports held reached held₀ reached₀
+  pub pass : is-down p ≡ false → Half-reached n left ports held reached held₀ reached₀
   pass other =
       let e = children-other p left other in
       record { waiting = h .waiting; stack = rw e at (h .stack); hits = λ i. rw e at (h .hits i) }
 
-  module _ (down : p .mark ≡ 3) where
+  module _ (down : is-down p ≡ true) where
     -- it was reached before
     pub twice : hit reached (p .child) ≡ 1 → 2 ≤ hit reached₀ (p .child) + times (p .child) (children ports)
     twice z =

@@ -1,14 +1,11 @@
 -- Rows that are in range can be the rows of nodes.
-use mathlib.Core.Path.{_≡_, refl, sym, ap, subst, _∙_}
-use mathlib.Core.Bool.{Bool, true, false, not, _&&_, _||_}
-use mathlib.Core.List.{List, [], _∷_}
-use Prim.Native.Nat.{ℕ, _+_, _<_, _≤_}
-use native.Mathlib.Omega.{arith}
-use lib.Dec.{eqb, ltb}
+use mathlib.Core.Path.{_≡_, refl, sym, ap, _∙_}
+use mathlib.Core.Bool.{true, false, _&&_}
+use mathlib.Core.List.{List, []}
+use Prim.Native.Nat.{ℕ, _<_}
+use lib.Dec.{ltb}
 use lib.ListN.{length, getD}
-use Rattle.std.specs.declared.option.Option.the-variants.{Some, None}
 use Rattle.std.specs.shelf.Lists.{map}
-use Rattle.std.specs.shelf.Maps.{nth}
 use Rattle.std.proofs.shelf.Maps.{nth-getD}
 use Rattle.std.proofs.shelf.Tests.{and-parts, ltb-true}
 use Rattle.selfid.specs.declared.node.Fields.{Fields}
@@ -16,7 +13,6 @@ use Rattle.selfid.specs.declared.node.Node.{Node}
 use Rattle.selfid.specs.Reading.{speed-in}
 use Rattle.selfid.proofs.Digits.{speed-again}
 use Rattle.announce.specs.declared.described.Row.{Row}
-use Rattle.announce.specs.declared.described.RowPort.{RowPort}
 use Rattle.announce.specs.Announcing.{every, port-in-range, row-in-range}
 use Rattle.announce.specs.Description.{Has-fields, Fields-at, ports-at}
 use Rattle.announce.specs.Rows.{is-mark, Have-marks, Tells-node}

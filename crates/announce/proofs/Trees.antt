@@ -1,23 +1,20 @@
 -- What rows tell of the cabling that they describe.
 use mathlib.Core.Path.{_≡_, refl, sym, ap, ap₂, _∙_}
-use mathlib.Core.Bool.{Bool, true, false, cond}
-use mathlib.Core.List.{List, [], _∷_, _++_}
+use mathlib.Core.Bool.{cond}
+use mathlib.Core.List.{List, [], _∷_}
 use mathlib.Core.Logic.{_⊎_, inl, inr}
-use Prim.Native.Nat.{ℕ, zero, suc, _+_, _<_, _≤_}
+use Prim.Native.Nat.{ℕ, suc, _+_, _<_, _≤_}
 use native.Mathlib.Omega.{arith}
 use lib.Dec.{eqb}
 use lib.ListN.{length, length-append}
 use Rattle.std.specs.declared.option.Option.{Option}
 use Rattle.std.specs.declared.option.Option.the-variants.{Some, None}
-use Rattle.std.specs.shelf.Lists.{map}
 use Rattle.std.specs.shelf.Maps.{nth}
 use Rattle.std.proofs.shelf.Lists.{length-map}
 use Rattle.std.proofs.shelf.Maps.{nth-past}
-use Rattle.std.proofs.shelf.Tests.{cases-lt, eq-eqb, ne-eqb}
-use Rattle.selfid.specs.declared.mark.Mark.{Mark}
+use Rattle.std.proofs.shelf.Tests.{cases-lt}
 use Rattle.selfid.specs.declared.node.Fields.{Fields}
 use Rattle.selfid.specs.Marks.{mark-code, ups}
-use Rattle.selfid.specs.Speeds.{speed-code}
 use Rattle.selfid.specs.Reading.{speed-in}
 use Rattle.selfid.specs.Cabling.{Childless, absent, «open», up, childless-mark, Cabling, node, Ports, end, plain, down, marks-of, size, size-below}
 use Rattle.selfid.proofs.Same.{same-fields}
@@ -25,12 +22,12 @@ use Rattle.selfid.proofs.Digits.{speed-back}
 use Rattle.selfid.proofs.Tells.{head-code, tail-marks, leads-to-none, childless-known}
 use Rattle.announce.specs.declared.described.Row.{Row}
 use Rattle.announce.specs.declared.described.RowPort.{RowPort}
-use Rattle.announce.specs.Description.{Has-fields, Fields-at, ports-at, Describes-at, Describe-ports, rows-of, rows-below, times, Describes}
+use Rattle.announce.specs.Description.{Has-fields, Fields-at, ports-at, Describes-at, Describe-ports, rows-of, rows-below, times}
 use Rattle.announce.specs.Announcing.{Describe-one-cabling}
 use Rattle.announce.specs.Rows.{Have-marks}
 use Rattle.announce.specs.Reach.{ups-of}
 use Rattle.announce.proofs.Marked.{same-codes}
-use Rattle.announce.proofs.Times.{is, is-other, times-append}
+use Rattle.announce.proofs.Times.{is-other, times-append}
 
 -- The row that has these fields.
 pub record Row-here (rows : List Row) (i : ℕ) (x : Fields) : Type 0 where

@@ -1,22 +1,22 @@
 -- The walk that reaches all rows: what holds while rows wait, and that it ends.
 use mathlib.Core.Path.{_≡_, refl, sym, ap, _∙_}
-use mathlib.Core.Bool.{Bool, true, false, cond, not, _||_}
+use mathlib.Core.Bool.{Bool, true, false, not, _||_}
 use mathlib.Core.List.{List, [], _∷_}
 use mathlib.Core.Logic.{_⊎_, inl, inr}
 use Prim.Native.Nat.{ℕ, zero, suc, _+_, _-_, _<_, _≤_}
 use native.Mathlib.Omega.{arith}
-use lib.Dec.{eqb, ltb}
+use lib.Dec.{ltb}
 use lib.ListN.{length, getD, replicate}
-use Rattle.std.proofs.shelf.Tests.{cases-eq, cases-lt, and-parts, ltb-true, eq-eqb}
+use Rattle.std.proofs.shelf.Tests.{cases-bool, cases-lt, and-parts, ltb-true}
 use Rattle.selfid.specs.Packets.{bit}
 use Rattle.selfid.specs.Cabling.{Cabling}
 use Rattle.announce.specs.declared.described.Row.{Row}
 use Rattle.announce.specs.declared.described.RowPort.{RowPort}
-use Rattle.announce.specs.Announcing.{every, row-in-range}
-use Rattle.announce.specs.Description.{Describes, ports-at, times}
+use Rattle.announce.specs.Announcing.{every}
+use Rattle.announce.specs.Description.{is-down, Describes, times}
 use Rattle.announce.specs.Reach.{children, onto, hit, child-below, Children-below, Waiting, Reached-all, In-order}
 use Rattle.announce.proofs.Times.{is, is-same, is-other, times-onto, length-onto, total, total-add, total-same, length-total}
-use Rattle.announce.proofs.Forests.{children-other, children-down, Reach, Ready, start, step, come-to, done}
+use Rattle.announce.proofs.Forests.{children-other, children-down, Reach, start, step, come-to, done}
 use Rattle.announce.proofs.Reaching.{hit-small}
 use Rattle.announce.proofs.Told.{ports-here, ready}
 
@@ -33,11 +33,11 @@ no-more : (n : ℕ) (ports : List RowPort) → Children-below n ports → (i : �
 no-more n [] all i h = refl
 no-more n (p ∷ rest) all i h =
     let (here, others) = and-parts (child-below n p) (every (child-below n) rest) all in
-    go (cases-eq (p .mark) 3) here (no-more n rest others i h)
+    go (cases-bool (is-down p)) here (no-more n rest others i h)
   where
-    go : (p .mark ≡ 3) ⊎ (p .mark ≡ 3 → ⊥) → child-below n p ≡ true → times i (children rest) ≡ 0 → times i (children (p ∷ rest)) ≡ 0
+    go : (is-down p ≡ true) ⊎ (is-down p ≡ false) → child-below n p ≡ true → times i (children rest) ≡ 0 → times i (children (p ∷ rest)) ≡ 0
     go (inl e) b ih =
-        let f : (not true || ltb (p .child) n) ≡ true = ap (λ t. not t || ltb (p .child) n) (sym (eq-eqb (p .mark) 3 e)) ∙ b in
+        let f : (not true || ltb (p .child) n) ≡ true = ap (λ t. not t || ltb (p .child) n) (sym e) ∙ b in
         rw (children-down p rest e) (omega (arith, ih, is-other i (p .child) (λ z. omega (arith, ltb-true (p .child) n f))))
     go (inr o) b ih = rw (children-other p rest o) ih
 

@@ -15,11 +15,11 @@ use Rattle.announce.specs.declared.described.Row.{Row}
 use Rattle.announce.specs.declared.described.RowPort.{RowPort}
 use Rattle.announce.specs.declared.stop.DescriptionStop.{DescriptionStop}
 use Rattle.announce.specs.declared.stop.DescriptionStop.the-variants.{RowCount, TooShort, OutOfRange, NoTree}
-use Rattle.announce.specs.Description.{Describes}
+use Rattle.announce.specs.Description.{is-down, Describes}
 
 -- A mark code is 0 to 3, and a down port's child is one of n rows.
 abbrev pub port-in-range : (n : ℕ) → RowPort → Bool
-port-in-range n p = ltb (p .mark) 4 && (not (eqb (p .mark) 3) || ltb (p .child) n)
+port-in-range n p = ltb (p .mark) 4 && (not (is-down p) || ltb (p .child) n)
 
 abbrev pub every : {A : Type 0} → (A → Bool) → List A → Bool
 every f [] = true

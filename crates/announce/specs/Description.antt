@@ -1,19 +1,26 @@
 -- Descriptions: a row for each node, row 0 the root, and when rows describe a cabling.
 use mathlib.Core.Path.{_≡_}
-use mathlib.Core.Bool.{cond}
+use mathlib.Core.Bool.{Bool, cond}
 use mathlib.Core.List.{List, [], _∷_, _++_}
-use Prim.Native.Nat.{ℕ, suc, _+_, _<_}
+use Prim.Native.Nat.{ℕ, _+_, _<_}
 use lib.Dec.{eqb}
 use lib.ListN.{length}
 use Rattle.std.specs.declared.option.Option.the-variants.{Some, None}
 use Rattle.std.specs.shelf.Maps.{nth}
-use Rattle.selfid.specs.declared.mark.Mark.the-variants.{Down}
+use Rattle.selfid.specs.declared.mark.Mark.the-variants.{Up, Down}
 use Rattle.selfid.specs.declared.node.Fields.{Fields}
 use Rattle.selfid.specs.Marks.{mark-code}
 use Rattle.selfid.specs.Speeds.{speed-code}
 use Rattle.selfid.specs.Cabling.{Cabling, node, Ports, end, plain, down, childless-mark}
 use Rattle.announce.specs.declared.described.Row.{Row}
 use Rattle.announce.specs.declared.described.RowPort.{RowPort}
+
+-- The port is marked up, or down.
+abbrev pub is-up : RowPort → Bool
+is-up p = eqb (p .mark) (mark-code Up)
+
+abbrev pub is-down : RowPort → Bool
+is-down p = eqb (p .mark) (mark-code Down)
 
 -- The row has these fields.
 pub record Has-fields (r : Row) (x : Fields) : Type 0 where

@@ -3,7 +3,7 @@ use mathlib.Core.Path.{_≡_}
 use mathlib.Core.Bool.{Bool, true, false, cond, not, _||_}
 use mathlib.Core.List.{List, [], _∷_}
 use Prim.Native.Nat.{ℕ, zero, suc, _+_, _<_, _≤_}
-use lib.Dec.{eqb, ltb}
+use lib.Dec.{ltb}
 use lib.ListN.{length, getD}
 use Rattle.selfid.specs.Packets.{bit}
 use Rattle.selfid.specs.Nodes.{port-limit}
@@ -11,12 +11,12 @@ use Rattle.selfid.specs.Cabling.{Cabling, Proper, node-limit}
 use Rattle.announce.specs.declared.described.Row.{Row}
 use Rattle.announce.specs.declared.described.RowPort.{RowPort}
 use Rattle.announce.specs.Announcing.{every, row-in-range}
-use Rattle.announce.specs.Description.{Describes, Describes-at, ports-at, rows-of, times}
+use Rattle.announce.specs.Description.{is-up, is-down, Describes, Describes-at, ports-at, rows-of, times}
 
 -- The rows of the children, by rising down port.
 abbrev pub children : List RowPort → List ℕ
 children [] = []
-children (p ∷ ps) = cond (eqb (p .mark) 3) (p .child ∷ children ps) (children ps)
+children (p ∷ ps) = cond (is-down p) (p .child ∷ children ps) (children ps)
 
 -- The list with these put on top, one after the other.
 abbrev pub onto : List ℕ → List ℕ → List ℕ
@@ -25,7 +25,7 @@ onto (k ∷ ks) held = onto ks (k ∷ held)
 
 -- A down port's child is one of n rows.
 abbrev pub child-below : (n : ℕ) → RowPort → Bool
-child-below n p = not (eqb (p .mark) 3) || ltb (p .child) n
+child-below n p = not (is-down p) || ltb (p .child) n
 
 abbrev pub Children-below : (n : ℕ) → List RowPort → Type 0
 Children-below n ports = every (child-below n) ports ≡ true
@@ -55,7 +55,7 @@ pub record In-order (rows : List Row) : Type 0 where
 -- How many ports are marked up.
 abbrev pub ups-of : List RowPort → ℕ
 ups-of [] = 0
-ups-of (p ∷ ps) = cond (eqb (p .mark) 2) 1 0 + ups-of ps
+ups-of (p ∷ ps) = cond (is-up p) 1 0 + ups-of ps
 
 -- The up marks that are due in row i: none in row 0, one in any other.
 abbrev pub ups-due : ℕ → ℕ

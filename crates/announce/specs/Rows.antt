@@ -1,14 +1,12 @@
 -- Words of the inner functions: what is read of a row.
 use mathlib.Core.Path.{_≡_}
 use mathlib.Core.Bool.{Bool}
-use mathlib.Core.List.{List, [], _∷_}
-use Prim.Native.Nat.{ℕ}
+use mathlib.Core.List.{List}
 use lib.Dec.{ltb}
 use Rattle.std.specs.shelf.Lists.{map}
 use Rattle.selfid.specs.declared.mark.Mark.{Mark}
 use Rattle.selfid.specs.declared.node.Node.{Node}
 use Rattle.selfid.specs.Marks.{mark-code}
-use Rattle.selfid.specs.Nodes.{port-limit}
 use Rattle.announce.specs.declared.described.Row.{Row}
 use Rattle.announce.specs.declared.described.RowPort.{RowPort}
 use Rattle.announce.specs.Description.{Has-fields}

@@ -2,7 +2,6 @@
 use mathlib.Core.Bool.{cond}
 use mathlib.Core.List.{List, [], _∷_, _++_}
 use Prim.Native.Nat.{ℕ, _+_}
-use lib.Dec.{eqb}
 use lib.ListN.{length, take, drop}
 use Rattle.std.specs.declared.option.Option.{Option}
 use Rattle.std.specs.declared.option.Option.the-variants.{Some, None}
@@ -11,6 +10,7 @@ use Rattle.selfid.specs.Packets.{with-inverses}
 use Rattle.selfid.specs.Nodes.{node-packets}
 use Rattle.announce.specs.declared.described.RowPort.{RowPort}
 use Rattle.announce.specs.declared.writing.Found.{Found}
+use Rattle.announce.specs.Description.{is-down}
 
 -- The row with these words in it from place i on.
 abbrev pub put : List ℕ → (i : ℕ) → List ℕ → List ℕ
@@ -23,4 +23,4 @@ node-quadlets n x = with-inverses (node-packets n (x .fields) (x .marks))
 -- The first down port among some ports, the first of which is port i: its child's row, and the number of the port behind it.
 abbrev pub down-from : (i : ℕ) → List RowPort → Option Found
 down-from i [] = None
-down-from i (p ∷ rest) = cond (eqb (p .mark) 3) (Some (record { child = p .child; next = i + 1 })) (down-from (i + 1) rest)
+down-from i (p ∷ rest) = cond (is-down p) (Some (record { child = p .child; next = i + 1 })) (down-from (i + 1) rest)

@@ -1,5 +1,8 @@
 //! A description of a cabling: a row for each node, row 0 the root. Its numbers can be out of range.
 
+ghost use mathlib.Core.Path.{_≡_};
+ghost use Rattle.announce.specs.Description.{is-up, is-down};
+use selfid::mark::Mark;
 use selfid::node::PORT_LIMIT;
 
 // A port: the code of its mark, and for a down port the row of the child. Elsewhere the child is unread.
@@ -7,6 +10,20 @@ use selfid::node::PORT_LIMIT;
 pub struct RowPort {
     pub mark: u8,
     pub child: u8,
+}
+
+impl RowPort {
+    pub(crate) fn is_up(self) -> bool
+        ensures tells_if_it_is { λ r. ⌜ r ≡ is-up self ⌝ }
+    {
+        self.mark == Mark::Up.code()
+    }
+
+    pub(crate) fn is_down(self) -> bool
+        ensures tells_if_it_is { λ r. ⌜ r ≡ is-down self ⌝ }
+    {
+        self.mark == Mark::Down.code()
+    }
 }
 
 // A node: its fields, speed as its code, and its ports.

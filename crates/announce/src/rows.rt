@@ -25,7 +25,7 @@ use selfid::speed::Speed;
 fn port_in_range(port: RowPort, rows: usize) -> bool
     ensures tells_if_it_is { λ r. ⌜ r ≡ port-in-range rows port ⌝ }
 {
-    port.mark < 4 && (port.mark != 3 || (port.child as usize) < rows)
+    port.mark < 4 && (!port.is_down() || (port.child as usize) < rows)
 }
 
 fn ports_in_range(ports: &[RowPort], rows: usize) -> bool

@@ -1,7 +1,6 @@
 //! Whether the rows of a description are a tree: each row is reached once from row 0, and has the up mark that its place asks for.
 
 ghost use mathlib.Core.Bool.{false};
-ghost use mathlib.Core.List.{List, _∷_, []};
 ghost use mathlib.Core.Path.{_≡_};
 ghost use Prim.Native.Nat.{ℕ, _+_, _<_, _≤_};
 ghost use lib.Dec.{eqb};
@@ -35,7 +34,7 @@ fn reach_children(
     ensures refuses_a_row_reached_twice { λ r. ⌜ ByOk r (λ _. Unit {0}) (λ e. (e ≡ NoTree) × ((i : ℕ) × (i < rows) × (2 ≤ hit (now (reached .entry)) i + times i (children (now (ports .entry)))))) ⌝ }
 {
     for port in ports {
-        if port.mark != 3 {
+        if !port.is_down() {
             continue;
         }
         let child = port.child as usize;
@@ -80,7 +79,7 @@ fn count_ups(ports: &[RowPort]) -> usize
 {
     let mut count = 0;
     for port in ports {
-        if port.mark == 2 {
+        if port.is_up() {
             count += 1;
         }
     }

@@ -1,8 +1,8 @@
 //! The walk that writes an announcement: for each node, by rising down port, first its children and what hangs below them, then itself.
 
-ghost use mathlib.Core.List.{List, _∷_, []};
+ghost use mathlib.Core.List.{_∷_};
 ghost use mathlib.Core.Path.{_≡_};
-ghost use Prim.Native.Nat.{ℕ, _+_, _<_, _≤_};
+ghost use Prim.Native.Nat.{_+_, _<_, _≤_};
 ghost use lib.ListN.{length, drop};
 ghost use Rattle.selfid.specs.Cabling.{Cabling};
 ghost use Rattle.selfid.specs.Announcement.{announcement};
@@ -31,10 +31,12 @@ fn next_down(ports: &[RowPort], from: usize) -> Option<Found>
     ensures is_the_first_from_there_on { λ r. ⌜ r ≡ down-from from (drop from (now (ports .entry))) ⌝ }
 {
     for port in from..ports.len() {
-        let RowPort { mark, child } = ports[port];
-        if mark == 3 {
-            let next = (port + 1) as u8;
-            return Some(Found { child, next });
+        let here = ports[port];
+        if here.is_down() {
+            return Some(Found {
+                child: here.child,
+                next: (port + 1) as u8,
+            });
         }
     }
     None

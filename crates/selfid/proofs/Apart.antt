@@ -11,7 +11,7 @@ use Rattle.selfid.specs.declared.mark.Mark.{Mark}
 use Rattle.selfid.specs.declared.mark.Mark.the-variants.{Absent, Open, Up, Down}
 use Rattle.selfid.specs.declared.node.Fields.{Fields}
 use Rattle.selfid.specs.Marks.{mark-code, present}
-use Rattle.selfid.specs.Packets.{bit, code-at, zero-word, extension-word, with-inverses}
+use Rattle.selfid.specs.Packets.{bit, code-at, zero-word, extension-word}
 use Rattle.selfid.specs.Nodes.{port-limit, extensions, node-packets}
 use Rattle.selfid.specs.Reading.{bits, mark-in, speed-in}
 use Rattle.selfid.proofs.Same.{same-fields}

@@ -1,10 +1,8 @@
 -- Packets with the same parts are the same: that a number is in range has one proof.
 use mathlib.Core.Path.{_≡_}
 use mathlib.Core.HLevel.{isProp→PathP}
-use mathlib.Core.List.{List, [], _∷_}
-use Prim.Native.Nat.{ℕ, _<_}
+use Prim.Native.Nat.{_<_}
 use native.Mathlib.Bridge.{le-prop}
-use Rattle.selfid.specs.declared.mark.Mark.{Mark}
 use Rattle.selfid.specs.declared.node.Fields.{Fields}
 use Rattle.selfid.specs.declared.packet.PacketZero.{PacketZero}
 use Rattle.selfid.specs.declared.packet.Extension.{Extension}

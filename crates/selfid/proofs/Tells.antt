@@ -5,13 +5,10 @@ use Prim.Native.Nat.{ℕ, zero, suc, _+_}
 use native.Mathlib.Omega.{arith}
 use lib.ListN.{length, getD, drop}
 use Rattle.selfid.specs.declared.mark.Mark.{Mark}
-use Rattle.selfid.specs.declared.mark.Mark.the-variants.{Absent, Open, Up, Down}
-use Rattle.selfid.specs.declared.node.Fields.{Fields}
 use Rattle.selfid.specs.Marks.{mark-code}
 use Rattle.selfid.specs.Packets.{code-at, with-inverses}
-use Rattle.selfid.specs.Nodes.{node-packets}
-use Rattle.selfid.specs.Cabling.{Childless, absent, «open», up, childless-mark, Cabling, node, Ports, end, plain, down, marks-of, size, size-below, Sound, Sound-below, Proper}
-use Rattle.selfid.specs.Announcement.{packets-from, packets-below, packets, announcement, Announcement-tells-the-cabling}
+use Rattle.selfid.specs.Cabling.{Childless, absent, «open», up, childless-mark, Cabling, node, Ports, end, plain, down, marks-of, size, size-below, Sound, Sound-below}
+use Rattle.selfid.specs.Announcement.{packets-from, packets-below, packets, Announcement-tells-the-cabling}
 use Rattle.selfid.proofs.Apart.{node-known}
 
 -- What stood before, and the cabling or the ports.

@@ -2,27 +2,23 @@
 use mathlib.Core.Path.{_≡_, refl, sym, ap, _∙_}
 use mathlib.Core.Bool.{Bool, true, false, cond, not, _&&_, _||_}
 use mathlib.Core.List.{List, [], _∷_}
-use Prim.Native.Nat.{ℕ, zero, suc, _+_, _-_, _*_, _/_, _%_, _^_, _<_}
+use Prim.Native.Nat.{ℕ, zero, suc, _+_, _*_, _/_, _^_, _<_}
 use native.Mathlib.Omega.{arith}
 use lib.Dec.{eqb}
 use lib.ListN.{length, getD, drop}
 use Rattle.std.proofs.shelf.Lists.{ext-getD}
-use Rattle.std.specs.declared.result.Result.{Result}
 use Rattle.std.specs.declared.result.Result.the-variants.{Ok, Err}
 use Rattle.std.specs.Results.{Cases}
-use Rattle.std.proofs.shelf.Tests.{cond-true, cond-false, cond-both, eq-eqb, ne-eqb, eqb-true, eqb-false, or-parts, not-false}
+use Rattle.std.proofs.shelf.Tests.{cond-both, eq-eqb, ne-eqb, eqb-true, eqb-false, or-parts, not-false}
 use Rattle.std.proofs.shelf.Ways.{tells}
 use Rattle.selfid.specs.declared.mark.Mark.{Mark}
 use Rattle.selfid.specs.declared.mark.Mark.the-variants.{Absent, Open, Up, Down}
 use Rattle.selfid.specs.declared.packet.PacketZero.{PacketZero}
 use Rattle.selfid.specs.declared.packet.Extension.{Extension}
-use Rattle.selfid.specs.declared.packet.Packet.{Packet}
 use Rattle.selfid.specs.declared.packet.Packet.the-variants.{Zero, Further}
-use Rattle.selfid.specs.declared.packet.PacketFlaw.{PacketFlaw}
-use Rattle.selfid.specs.declared.packet.PacketFlaw.the-variants.{NotSelfId, ReservedBit}
+use Rattle.selfid.specs.declared.packet.PacketFlaw.the-variants.{ReservedBit}
 use Rattle.selfid.specs.Marks.{mark-code, present}
-use Rattle.selfid.specs.Speeds.{speed-code}
-use Rattle.selfid.specs.Packets.{bit, code-at, zero-word, extension-word}
+use Rattle.selfid.specs.Packets.{bit}
 use Rattle.selfid.specs.Reading.{word-of, bits, mark-in, speed-in, zero-in, extension-in, fields-in, read-zero, read-extension, reserved-set, packet-in, within-ports}
 use Rattle.selfid.proofs.Same.{same-fields, same-zero, same-extension}
 use Rattle.selfid.proofs.Digits.{mark-back, speed-back, bit-back, speed-small, mark-again, speed-again, bit-again, Zero-digits, zero-digits, Extension-digits, extension-digits}

@@ -1,6 +1,6 @@
 -- What a cabling announces.
 use mathlib.Core.Path.{_≡_}
-use mathlib.Core.List.{List, [], _∷_, _++_}
+use mathlib.Core.List.{List, [], _++_}
 use Prim.Native.Nat.{ℕ, _+_}
 use Rattle.selfid.specs.Packets.{with-inverses}
 use Rattle.selfid.specs.Nodes.{node-packets}

@@ -1,12 +1,12 @@
 -- The self-ID packets of a node as words of 32 bits: a sum of fields, each times the weight of its lowest bit.
-use mathlib.Core.Bool.{Bool, true, false, cond}
+use mathlib.Core.Bool.{Bool, true, false}
 use mathlib.Core.List.{List, [], _∷_}
-use Prim.Native.Nat.{ℕ, zero, suc, _+_, _-_, _*_, _^_}
-use lib.ListN.{getD, drop}
+use Prim.Native.Nat.{ℕ, _+_, _-_, _*_, _^_}
+use lib.ListN.{getD}
 use Rattle.selfid.specs.declared.mark.Mark.{Mark}
 use Rattle.selfid.specs.declared.mark.Mark.the-variants.{Absent}
 use Rattle.selfid.specs.declared.node.Fields.{Fields}
-use Rattle.selfid.specs.Marks.{mark-code, present}
+use Rattle.selfid.specs.Marks.{mark-code}
 use Rattle.selfid.specs.Speeds.{speed-code}
 
 abbrev pub bit : Bool → ℕ

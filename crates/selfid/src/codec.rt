@@ -7,7 +7,6 @@ ghost use Rattle.std.specs.Results.{Cases};
 ghost use Rattle.std.specs.declared.result.Result.the-variants.{Ok, Err};
 ghost use Rattle.selfid.specs.declared.packet.PacketFlaw.the-variants.{ReservedBit};
 ghost use Rattle.selfid.specs.Marks.{mark-code};
-ghost use Rattle.selfid.specs.Speeds.{speed-code};
 ghost use Rattle.selfid.specs.Packets.{bit, zero-word, extension-word, inverse-of};
 ghost use Rattle.selfid.specs.Reading.{word-of, mark-in, speed-in, fields-in, extension-in, reserved-set, read-zero, read-extension, packet-in, within-ports};
 ghost use Rattle.selfid.specs.Stops.{flaw-number};

@@ -1,6 +1,5 @@
-use mathlib.Core.Path.{_≡_, sym, ap, _∙_}
-use native.Mathlib.Omega.{arith}
-use Prim.Native.Nat.{ℕ, _+_, _*_}
+use mathlib.Core.Path.{sym, ap, _∙_}
+use Prim.Native.Nat.{_+_, _*_}
 use lib.ListN.{drop}
 use Rattle.std.proofs.shelf.Lists.{drop-drop}
 use Rattle.selfid.specs.Marks.{present}

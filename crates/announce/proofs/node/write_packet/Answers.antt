@@ -1,8 +1,6 @@
 use mathlib.Core.Path.{refl, ap, _∙_}
-use native.Mathlib.Omega.{arith}
 use Prim.Native.Nat.{_+_}
 use lib.ListN.{set}
-use borrow.Author.Needs.{needs}
 use Rattle.selfid.specs.Packets.{inverse-of}
 use Rattle.announce.proofs.Putting.{put-two}
 use Rattle.announce.proofs.node.write_packet.Needs as need

@@ -1,10 +1,9 @@
-use mathlib.Core.Path.{sym, subst, _∙_}
-use mathlib.Core.List.{List}
+use mathlib.Core.Path.{sym, _∙_}
 use native.Mathlib.Omega.{arith}
 use lib.ListN.{length-set}
 use Rattle.std.proofs.shelf.Lists.{take-all}
 use Rattle.std.proofs.shelf.Tests.{ltb-true}
-use Rattle.announce.specs.Rows.{is-mark, Have-marks}
+use Rattle.announce.specs.Rows.{is-mark}
 use Rattle.announce.proofs.Every.{every-at}
 use Rattle.announce.proofs.Marked.{is-some, has-code, marked-more}
 use Rattle.announce.proofs.rows.marks_of.Needs as need

@@ -1,5 +1,4 @@
 use mathlib.Core.Path.{_≡_}
-use Prim.Native.Nat.{_≤_}
 use lib.ListN.{length, take}
 use Rattle.announce.specs.Rows.{Have-marks}
 use Rattle.announce.proofs.rows.marks_of.Given as given

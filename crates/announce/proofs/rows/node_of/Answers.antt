@@ -1,7 +1,6 @@
 use mathlib.Core.Bool.{_&&_, _||_, not}
 use lib.Dec.{eqb, ltb}
 use Rattle.std.proofs.shelf.Tests.{and-parts}
-use Rattle.announce.specs.declared.described.RowPort.{RowPort}
 use Rattle.announce.specs.Announcing.{every, port-in-range}
 use Rattle.announce.specs.Rows.{is-mark}
 use Rattle.announce.proofs.Every.{every-weaker}

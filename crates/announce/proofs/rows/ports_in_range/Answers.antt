@@ -1,5 +1,4 @@
 use mathlib.Core.Path.{sym, _∙_}
-use native.Mathlib.Omega.{arith}
 use Rattle.announce.specs.Announcing.{port-in-range}
 use Rattle.announce.proofs.Every.{every-yes, every-no, every-end}
 use Rattle.announce.proofs.rows.ports_in_range.Needs as need

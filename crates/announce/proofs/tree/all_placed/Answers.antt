@@ -1,9 +1,9 @@
-use mathlib.Core.Path.{_≡_, sym, ap, _∙_}
+use mathlib.Core.Path.{sym, ap, _∙_}
 use native.Mathlib.Omega.{arith}
 use borrow.Author.Count.{below-more}
 use Rattle.std.proofs.shelf.Tests.{eqb-true, eqb-false}
 use Rattle.selfid.specs.Packets.{bit}
-use Rattle.announce.specs.Reach.{ups-of, ups-due, Placed}
+use Rattle.announce.specs.Reach.{ups-of, Placed}
 use Rattle.announce.proofs.Told.{no-row, ports-here}
 use Rattle.announce.proofs.tree.all_placed.Needs as need
 

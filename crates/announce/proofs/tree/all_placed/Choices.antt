@@ -1,5 +1,4 @@
-use Prim.Native.Nat.{ℕ, _<_, _≤_}
-use lib.ListN.{length}
+use Prim.Native.Nat.{ℕ, _<_}
 use Rattle.announce.specs.Reach.{Placed}
 use Rattle.announce.proofs.tree.all_placed.Given as given
 

@@ -1,11 +1,11 @@
-use mathlib.Core.Path.{_≡_, refl, sym, ap, _∙_}
-use mathlib.Core.List.{[], _∷_}
+use mathlib.Core.Path.{refl, ap, _∙_}
+use mathlib.Core.List.{_∷_}
 use native.Mathlib.Omega.{arith}
 use lib.ListN.{length}
 use Rattle.std.proofs.shelf.Results.{err-from-errBy}
-use Rattle.stack.specs.Held.{held, room}
+use Rattle.stack.specs.Held.{held}
 use Rattle.announce.proofs.Told.{no-row, children-here}
-use Rattle.announce.proofs.Waits.{Walking, begun, next-small, taken-off, put-on, falls, no-cabling, ended}
+use Rattle.announce.proofs.Waits.{begun, next-small, taken-off, put-on, falls, no-cabling, ended}
 use Rattle.announce.proofs.tree.reach_all.Needs as need
 
 pub loop-next-holds : need.loop-next-holds

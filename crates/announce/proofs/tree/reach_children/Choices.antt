@@ -1,9 +1,6 @@
 use mathlib.Core.Path.{_≡_}
-use Prim.Native.Nat.{ℕ, _+_, _≤_}
 use lib.ListN.{length, drop}
-use Rattle.announce.specs.Description.{times}
 use Rattle.stack.specs.Held.{held, room}
-use Rattle.announce.specs.Reach.{children, onto, hit, Waiting}
 use Rattle.announce.proofs.Reaching.{Half-reached}
 use Rattle.announce.proofs.tree.reach_children.Given as given
 

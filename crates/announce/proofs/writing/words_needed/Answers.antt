@@ -1,13 +1,13 @@
 use mathlib.Core.Path.{_≡_, sym, ap, _∙_}
-use Prim.Native.Nat.{_+_, _*_, _≤_}
+use Prim.Native.Nat.{_*_}
 use native.Mathlib.Omega.{arith}
 use borrow.Author.Needs.{needs}
-use lib.ListN.{length, drop}
+use lib.ListN.{length}
 use Rattle.announce.specs.Announcing.{row-in-range}
 use Rattle.announce.proofs.Every.{every-at}
 use Rattle.announce.proofs.Times.{total, total-more}
 use Rattle.announce.proofs.Told.{no-row, ports-here}
-use Rattle.announce.proofs.Lengths.{marks-read, read-back, packet-count, packets-at, count-at-most, length-announced}
+use Rattle.announce.proofs.Lengths.{marks-read, read-back, packet-count, packets-at, length-announced}
 use Rattle.announce.proofs.writing.words_needed.Needs as need
 
 pub node-of-requires : need.node-of-requires

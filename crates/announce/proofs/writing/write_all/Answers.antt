@@ -1,16 +1,12 @@
-use mathlib.Core.Path.{_≡_, refl, sym, ap, _∙_}
-use mathlib.Core.List.{[], _∷_}
-use Prim.Native.Nat.{_+_, _<_, _≤_}
+use mathlib.Core.Path.{refl, ap, _∙_}
+use mathlib.Core.List.{_∷_}
 use native.Mathlib.Omega.{arith}
-use lib.ListN.{length, getD}
+use lib.ListN.{length}
 use Rattle.std.specs.declared.option.Option.the-variants.{Some, None}
-use Rattle.selfid.specs.Cabling.{Cabling}
 use Rattle.announce.specs.Announcing.{row-in-range}
-use Rattle.announce.specs.Description.{Describes}
-use Rattle.stack.specs.Held.{held}
 use Rattle.announce.proofs.Every.{every-at}
 use Rattle.announce.proofs.Told.{no-row}
-use Rattle.announce.proofs.Opened.{Writing, begins, descends, node-next, node-room, ends, frame-row, frames-few, looked}
+use Rattle.announce.proofs.Opened.{begins, descends, node-next, node-room, ends, frame-row, frames-few, looked}
 use Rattle.announce.proofs.writing.write_all.Needs as need
 
 pub loop-frame-holds : need.loop-frame-holds

@@ -1,5 +1,5 @@
-use mathlib.Core.Path.{_≡_, ap}
-use mathlib.Core.List.{List, [], _∷_}
+use mathlib.Core.Path.{ap}
+use mathlib.Core.List.{[], _∷_}
 use lib.Dec.{eqb}
 use Rattle.selfid.specs.Reading.{extension-in}
 use Rattle.selfid.proofs.Same.{same-extension}

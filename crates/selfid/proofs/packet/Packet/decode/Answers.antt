@@ -1,10 +1,9 @@
-use mathlib.Core.Path.{_≡_, _∙_, ap, sym}
-use Prim.Native.Nat.{_/_, _%_, _^_}
+use mathlib.Core.Path.{_≡_}
+use Prim.Native.Nat.{_/_, _^_}
 use native.Mathlib.Omega.{arith}
 use borrow.Author.Needs.{needs}
-use lib.Dec.{eqb}
 use Rattle.std.proofs.shelf.Tests.{eq-eqb, ne-eqb}
-use Rattle.selfid.specs.Reading.{bits, packet-in}
+use Rattle.selfid.specs.Reading.{bits}
 use Rattle.selfid.proofs.Trips.{zero-again, extension-again}
 use Rattle.selfid.proofs.packet.Packet.decode.Needs as need
 

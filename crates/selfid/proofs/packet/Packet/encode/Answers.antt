@@ -1,9 +1,6 @@
-use mathlib.Core.Path.{_∙_, ap, sym}
-use mathlib.Core.Bool.{cond}
+use mathlib.Core.Path.{_∙_, ap}
 use borrow.Author.Needs.{needs}
-use Rattle.std.specs.declared.result.Result.the-variants.{Ok, Err}
-use Rattle.selfid.specs.declared.packet.PacketFlaw.the-variants.{ReservedBit}
-use Rattle.selfid.specs.Reading.{packet-in, within-ports}
+use Rattle.selfid.specs.Reading.{packet-in}
 use Rattle.selfid.proofs.Trips.{zero-trip, extension-trip}
 use Rattle.selfid.proofs.packet.Packet.encode.Needs as need
 
