@@ -11,12 +11,14 @@ ghost use Rattle.selfid.specs.Packets.{zero-word, extension-word, with-inverses
 ghost use Rattle.announce.specs.Writing.{put, node-quadlets};
 use selfid::codec::inverse;
 use selfid::mark::Mark;
-use selfid::node::EXTENSION_LIMIT;
 use selfid::node::Node;
 use selfid::node::PORT_LIMIT;
+use selfid::packet::EXTENSION_LIMIT;
+use selfid::packet::EXTENSION_PORTS;
 use selfid::packet::Extension;
 use selfid::packet::Packet;
 use selfid::packet::PacketZero;
+use selfid::packet::ZERO_PORTS;
 
 // Is some port from this one on not absent?
 fn present_from(marks: &[Mark; PORT_LIMIT], first: usize) -> bool
@@ -48,7 +50,7 @@ pub(crate) fn count_packets(marks: &[Mark; PORT_LIMIT]) -> usize
     ensures counts_packet_zero_and_the_extensions { λ r. ⌜ r ≡ suc (length (extensions 2 0 0 (drop 3 (now (marks .entry))))) ⌝ }
 {
     for turn in 0..EXTENSION_LIMIT {
-        if !present_from(marks, 8 * turn + 3) {
+        if !present_from(marks, EXTENSION_PORTS * turn + ZERO_PORTS) {
             return turn + 1;
         }
     }
@@ -64,7 +66,7 @@ fn zero_of(number: u8, node: &Node) -> u32
         number,
         fields: node.fields,
         marks: [mark_at(marks, 0), mark_at(marks, 1), mark_at(marks, 2)],
-        more: present_from(marks, 3),
+        more: present_from(marks, ZERO_PORTS),
     };
     Packet::Zero(packet).encode()
 }
@@ -74,7 +76,7 @@ fn extension_of(number: u8, node: &Node, turn: usize) -> u32
     ensures is_the_extension { λ r. ⌜ r ≡ extension-word number turn (drop (8 * turn + 3) (now (node .entry) .marks)) (present (drop 8 (drop (8 * turn + 3) (now (node .entry) .marks)))) ⌝ }
 {
     let marks = &node.marks;
-    let first = 8 * turn + 3;
+    let first = EXTENSION_PORTS * turn + ZERO_PORTS;
     let packet = Extension {
         number,
         turn: turn as u8,
@@ -88,9 +90,9 @@ fn extension_of(number: u8, node: &Node, turn: usize) -> u32
             mark_at(marks, first + 6),
             mark_at(marks, first + 7),
         ],
-        more: present_from(marks, first + 8),
+        more: present_from(marks, first + EXTENSION_PORTS),
     };
-    Packet::Further(packet).encode()
+    Packet::Extension(packet).encode()
 }
 
 // Writes a packet and its inverse at this place, and answers the place behind them.
@@ -113,7 +115,7 @@ pub(crate) fn write_node(number: u8, node: &Node, words: &mut [u32], at: usize) 
 {
     let mut next = write_packet(zero_of(number, node), words, at);
     for turn in 0..EXTENSION_LIMIT {
-        if !present_from(&node.marks, 8 * turn + 3) {
+        if !present_from(&node.marks, EXTENSION_PORTS * turn + ZERO_PORTS) {
             return next;
         }
         next = write_packet(extension_of(number, node, turn), words, next);

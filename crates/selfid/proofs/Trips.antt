@@ -1,5 +1,5 @@
 -- Packets to words and back.
-use mathlib.Core.Path.{_≡_, refl, sym, ap, _∙_}
+use mathlib.Core.Path.{_≡_, refl, sym, ap, ap₂, _∙_}
 use mathlib.Core.Bool.{Bool, true, false, cond, not, _&&_, _||_}
 use mathlib.Core.List.{List, [], _∷_}
 use Prim.Native.Nat.{ℕ, zero, suc, _+_, _*_, _/_, _^_, _<_}
@@ -15,7 +15,7 @@ use Rattle.selfid.specs.declared.mark.Mark.{Mark}
 use Rattle.selfid.specs.declared.mark.Mark.the-variants.{Absent, Open, Up, Down}
 use Rattle.selfid.specs.declared.packet.PacketZero.{PacketZero}
 use Rattle.selfid.specs.declared.packet.Extension.{Extension}
-use Rattle.selfid.specs.declared.packet.Packet.the-variants.{Zero, Further}
+use Rattle.selfid.specs.declared.packet.Packet.the-variants.{Zero, Extension as Further}
 use Rattle.selfid.specs.declared.packet.PacketFlaw.the-variants.{ReservedBit}
 use Rattle.selfid.specs.Marks.{mark-code, present}
 use Rattle.selfid.specs.Packets.{bit}
@@ -122,7 +122,8 @@ extension-trip p len =
     let unused : eqb (bits 1 1 q) 0 ≡ true = eq-eqb (bits 1 1 q) 0 (d .unused) in
     let behind : not (eqb (bits 7 2 q) 0) ≡ present (drop 5 ms) =
     ap (λ k. not (eqb k 0)) (d .behind-fifth) ∙ there (getD ms 5 Absent) (getD ms 6 Absent) (getD ms 7 Absent) ∙ ap present (sym (past-fifth ms len)) in
-    simp (top, kind, clear, unused, d .turn, behind, extension-back p len q d) (refused-or-read (eqb (p .turn) 1) (present (drop 5 ms)) (Ok (Further p)) (Err ReservedBit))
+    simp (top, kind, clear, unused, behind)
+    (ap₂ (λ t r. cond (eqb t 1 && present (drop 5 ms)) (Err ReservedBit) (Ok (Further r))) (d .turn) (extension-back p len q d) ∙ refused-or-read (eqb (p .turn) 1) (present (drop 5 ms)) (Ok (Further p)) (Err ReservedBit))
 
 -- Words to packets and back.
 pub zero-again : (q : ℕ) → q < 2 ^ 32 → q / 2 ^ 30 ≡ 2 → bits 23 23 q ≡ 0 → Cases (read-zero q) (λ p. word-of p ≡ q) (λ _. Unit {0})

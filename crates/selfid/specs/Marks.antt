@@ -1,4 +1,4 @@
--- The marks of ports: their codes, and how many of a list are up, are down, or are there at all.
+-- The marks of ports: their codes, how many of a list are up, and whether one is there at all.
 use mathlib.Core.Bool.{Bool, true, false, cond}
 use mathlib.Core.List.{List, [], _∷_}
 use Prim.Native.Nat.{ℕ, suc}

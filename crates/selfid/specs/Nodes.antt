@@ -1,7 +1,7 @@
 -- Which packets a node sends.
 use mathlib.Core.Bool.{cond}
 use mathlib.Core.List.{List, [], _∷_}
-use Prim.Native.Nat.{ℕ, zero, suc}
+use Prim.Native.Nat.{ℕ, zero, suc, _+_, _-_, _/_}
 use lib.ListN.{drop}
 use Rattle.selfid.specs.declared.mark.Mark.{Mark}
 use Rattle.selfid.specs.declared.node.Fields.{Fields}
@@ -12,9 +12,9 @@ use Rattle.selfid.specs.Packets.{zero-word, extension-word}
 abbrev pub port-limit : ℕ
 port-limit = 16
 
--- So many extensions have room for the ports behind the first three.
+-- So many extensions have room for the ports behind the first three, eight each.
 abbrev pub extension-limit : ℕ
-extension-limit = 2
+extension-limit = (port-limit - 3 + 7) / 8
 
 -- The extensions of node n from extension e on, at most k of them, where ms are the marks of the ports from port 8e + 3 on:
 -- one is sent if some port from its first on is not absent. More is set in all but the last.

@@ -15,7 +15,7 @@ use Rattle.selfid.specs.declared.node.Fields.{Fields}
 use Rattle.selfid.specs.declared.packet.PacketZero.{PacketZero}
 use Rattle.selfid.specs.declared.packet.Extension.{Extension}
 use Rattle.selfid.specs.declared.packet.Packet.{Packet}
-use Rattle.selfid.specs.declared.packet.Packet.the-variants.{Zero, Further}
+use Rattle.selfid.specs.declared.packet.Packet.the-variants.{Zero, Extension as Further}
 use Rattle.selfid.specs.declared.packet.PacketFlaw.{PacketFlaw}
 use Rattle.selfid.specs.declared.packet.PacketFlaw.the-variants.{NotSelfId, ReservedBit}
 use Rattle.selfid.specs.Marks.{present}

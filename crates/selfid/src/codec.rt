@@ -157,7 +157,7 @@ fn decode_extension(word: u32) -> Result<Packet, PacketFlaw>
     if has_reserved_bit(word) {
         Err(PacketFlaw::ReservedBit)
     } else {
-        Ok(Packet::Further(extension_in(word)))
+        Ok(Packet::Extension(extension_in(word)))
     }
 }
 
@@ -169,7 +169,7 @@ impl Packet {
     {
         match self {
             Packet::Zero(packet) => encode_zero(packet),
-            Packet::Further(packet) => encode_extension(packet),
+            Packet::Extension(packet) => encode_extension(packet),
         }
     }
 

@@ -7,9 +7,6 @@ use crate::speed::Speed;
 // Every node has this many ports, some of them absent.
 pub const PORT_LIMIT: usize = 16;
 
-// So many extensions have room for the ports behind the first three.
-pub const EXTENSION_LIMIT: usize = 2;
-
 // A bus has at most this many nodes.
 pub const NODE_LIMIT: usize = 63;
 

@@ -11,9 +11,9 @@ returns-in-Zero c =
       decodes-to-itself = rw (c .in-Zero .is) (ap packet-in (c .encode-zero .ensures .is-the-word) ∙ zero-trip (c .in-Zero .packet) (search needs));
     }
 
-pub returns-in-Further : need.returns-in-Further
-returns-in-Further c =
+pub returns-in-Extension : need.returns-in-Extension
+returns-in-Extension c =
     record {
       is-the-word = search needs;
-      decodes-to-itself = rw (c .in-Further .is) (ap packet-in (c .encode-extension .ensures .is-the-word) ∙ extension-trip (c .in-Further .packet) (search needs));
+      decodes-to-itself = rw (c .in-Extension .is) (ap packet-in (c .encode-extension .ensures .is-the-word) ∙ extension-trip (c .in-Extension .packet) (search needs));
     }
