@@ -1,6 +1,7 @@
 //! Describes a few benches, announces each, and prints what goes out on the bus as a trace:
 //! a note with the bench's name, the line `reset`, then a packet and its inverse to a line.
 
+ghost use Rattle.benchtrace.specs.Benches.{Hub-announces, Three-cameras-announce};
 use announce::announce;
 use announce::described::Row;
 use announce::frame::Frame;
@@ -69,7 +70,10 @@ fn print_bench(
 }
 
 // Benches that go out.
-fn print_benches(rt: &LibcRuntime) -> io::Result<()> {
+fn print_benches(rt: &LibcRuntime) -> io::Result<()>
+    ensures definitions_give_the_words_of_three_cameras { λ _. ⌜ Three-cameras-announce ⌝ }
+    ensures definitions_give_the_words_of_the_hub { λ _. ⌜ Hub-announces ⌝ }
+{
     let heap = rt.alloc();
     print_bench(
         rt,
