@@ -123,7 +123,34 @@ refused("a node with two up marks", 16)
 refused("a ring", 16)
 refused("no row", 14)
 refused("a chain of 64", 14)
-refused("a stack row too short", 13)
+refused("a chain of 64 and too few words", 14)
+refused("the first stack row too short", 13)
+refused("the second stack row too short", 13)
 refused("a stack row too short and a gap count of 64", 13)
 refused("too few words", 13)
 refused("too few words and a ring", 16)
+
+
+def bits_of(w, high, low):
+    return w >> low & ((1 << (high - low + 1)) - 1)
+
+
+def told(w):
+    if bits_of(w, 31, 30) != 0b10:
+        return "is no packet: 3"
+    if bits_of(w, 23, 23) == 0:
+        if bits_of(w, 13, 12) or bits_of(w, 15, 14) == 3:
+            return "is no packet: 4"
+        what = "packet zero"
+    else:
+        e = bits_of(w, 22, 20)
+        if bits_of(w, 19, 18) or bits_of(w, 1, 1) or (e == 1 and bits_of(w, 7, 2)):
+            return "is no packet: 4"
+        what = "extension %d" % e
+    return "is %s of node %d, sent as %08X" % (what, bits_of(w, 29, 24), w)
+
+
+print("# words read as packets")
+for w in (0x827F88DE, 0x81830001, 0x81900200, 0xBFF3FFFD, 0x80A00004, 0x00000000, 0x407F88DE, 0xC07F88DE,
+          0x807FC856, 0x807F9856, 0x807FA856, 0x80880000, 0x80840000, 0x80800002, 0x80900004, 0x80900080):
+    print("# %08X %s" % (w, told(w)))

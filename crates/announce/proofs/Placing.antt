@@ -11,7 +11,7 @@ use Rattle.selfid.specs.Cabling.{Cabling, node, Ports, end, plain, down, size, 
 use Rattle.announce.specs.declared.described.Row.{Row}
 use Rattle.announce.specs.declared.described.RowPort.{RowPort}
 use Rattle.announce.specs.Description.{ports-at, Describes-at, Describe-ports, rows-of, rows-below, times, Describes}
-use Rattle.announce.specs.Reach.{Reached-all, In-order, ups-of, ups-due, Placed}
+use Rattle.announce.specs.Reach.{Reached-rows, Well-formed, ups-of, ups-due, Placed}
 use Rattle.announce.proofs.Times.{is, is-same, is-other, times-append, total-same, total-one, length-total}
 use Rattle.announce.proofs.Forests.{under, times-rows}
 use Rattle.announce.proofs.Trees.{row-small, length-told, ups-told, rows-small, rows-size}
@@ -21,7 +21,7 @@ due-one : (k : ℕ) → is 0 k ≡ 0 → ups-due k ≡ 1
 due-one zero e = absurd (omega (arith, is-same 0))
 due-one (suc k) e = refl
 
-module _ (rows : List Row) (order : In-order rows) (due : (i : ℕ) → i < length rows → ups-of (ports-at rows i) ≡ ups-due i) where
+module _ (rows : List Row) (order : Well-formed rows) (due : (i : ℕ) → i < length rows → ups-of (ports-at rows i) ≡ ups-due i) where
   mutual
     sound-at : (c : Cabling) (i : ℕ) → Describes-at rows i c → times 0 (under rows i c) ≡ 0 → Sound (ups-due i) c
     sound-at (node x ps) i d none =
@@ -48,7 +48,7 @@ size-told rows c t =
     sym (rows-size rows c 0 (t .root)) ∙ length-total all n (rows-small rows c 0 (t .root)) ∙ total-same (λ i. times i all) (λ _. 1) n (t .each-once) ∙ total-one n
 
 -- All rows are placed: what row 0 describes is described by the rows, and is proper.
-pub all-placed : (rows : List Row) (reached : List Bool) → In-order rows → (all : Reached-all rows reached) → ((i : ℕ) → i < length rows → Placed rows reached i) → Describes rows (all .cabling) × Proper (all .cabling)
+pub all-placed : (rows : List Row) (reached : List Bool) → Well-formed rows → (all : Reached-rows rows reached) → ((i : ℕ) → i < length rows → Placed rows reached i) → Describes rows (all .cabling) × Proper (all .cabling)
 all-placed rows reached order all placed = (told, record { sound = sound; few = omega (arith, size-told rows c told, order .few) })
   where
     c : Cabling
@@ -99,5 +99,5 @@ module _ (rows : List Row) where
       ups-under c 0 0 (suc i) (t .root) (p .sound) (omega (arith, t .each-once (suc i) h, times-rows rows (suc i) 0 c, is-other (suc i) 0 (λ e. omega arith)))
 
 -- A row is misplaced: the rows describe no proper cabling.
-pub misplaced : (rows : List Row) (reached : List Bool) → Reached-all rows reached → (i : ℕ) → i < length rows → (Placed rows reached i → ⊥) → (c : Cabling) → Describes rows c → Proper c → ⊥
+pub misplaced : (rows : List Row) (reached : List Bool) → Reached-rows rows reached → (i : ℕ) → i < length rows → (Placed rows reached i → ⊥) → (c : Cabling) → Describes rows c → Proper c → ⊥
 misplaced rows reached all i h out c t p = out (sym (all .counts c (t .root) i) ∙ t .each-once i h, ups-right rows c t p i h)

@@ -14,7 +14,7 @@ use Rattle.announce.specs.declared.described.Row.{Row}
 use Rattle.announce.specs.declared.described.RowPort.{RowPort}
 use Rattle.announce.specs.Announcing.{every}
 use Rattle.announce.specs.Description.{is-down, Describes, times}
-use Rattle.announce.specs.Reach.{children, onto, hit, child-below, Children-below, Waiting, Reached-all, In-order}
+use Rattle.announce.specs.Reach.{children, onto, hit, child-below, Children-below, Waiting, Reached-rows, Well-formed}
 use Rattle.announce.proofs.Times.{is, is-same, is-other, times-onto, length-onto, total, total-add, total-same, length-total}
 use Rattle.announce.proofs.Forests.{children-other, children-down, Reach, start, step, come-to, done}
 use Rattle.announce.proofs.Reaching.{hit-small}
@@ -49,7 +49,7 @@ next-small n i js reached w = go (cases-lt i n)
     go (inl l) = l
     go (inr l) = absurd (omega (arith, w .once i, w .rows-only i l, is-same i))
 
-module _ (rows : List Row) (i : ℕ) (d : Row) (js : List ℕ) (reached after : List Bool) (order : In-order rows) (w : Walking rows (i ∷ js) reached) where
+module _ (rows : List Row) (i : ℕ) (d : Row) (js : List ℕ) (reached after : List Bool) (order : Well-formed rows) (w : Walking rows (i ∷ js) reached) where
   abbrev ports : List RowPort
   ports = getD rows i d .ports
 
@@ -103,7 +103,7 @@ begun rows some =
     }
 
 -- When none waits, all that can be reached is.
-pub ended : (rows : List Row) (reached : List Bool) → Walking rows [] reached → Reached-all rows reached
+pub ended : (rows : List Row) (reached : List Bool) → Walking rows [] reached → Reached-rows rows reached
 ended rows reached w =
     let g = w .reach .grow [] tt in
     record { cabling = g .cabling; describes = g .describes; counts = done rows (hit reached) (w .reach) }

@@ -30,13 +30,13 @@ abbrev pub row-in-range : (n : ℕ) → Row → Bool
 row-in-range n r = ltb (r .gap) 64 && ltb (r .speed) 3 && ltb (r .power) 8 && every (port-in-range n) (r .ports)
 
 -- What refuses a description before its tree is looked at: no row or more than 63, a stack row with fewer elements than there are rows, or something out of range.
-abbrev pub refused : List Row → (reach walk : ℕ) → Option DescriptionStop
-refused rows reach walk =
+abbrev pub refused : List Row → (reach-room walk-room : ℕ) → Option DescriptionStop
+refused rows reach-room walk-room =
     cond (eqb (length rows) 0 || ltb node-limit (length rows)) (Some RowCount)
-    (cond (ltb reach (length rows) || ltb walk (length rows)) (Some TooShort)
+    (cond (ltb reach-room (length rows) || ltb walk-room (length rows)) (Some TooShort)
     (cond (every (row-in-range (length rows)) rows) None (Some OutOfRange)))
 
--- The rows describe a cabling, and its announcement is written to the front of the row `before`, of which the rest stays; the answer is its length.
+-- The rows describe a proper cabling, and its announcement is written to the front of the words `before`, of which the rest stays; the answer is its length.
 pub record Written (rows : List Row) (before : List ℕ) (a : Result ℕ DescriptionStop) (after : List ℕ) : Type 0 where
   pub cabling : Cabling
   pub describes : Describes rows cabling
@@ -45,7 +45,7 @@ pub record Written (rows : List Row) (before : List ℕ) (a : Result ℕ Descrip
   pub answers : a ≡ Ok (length (announcement cabling))
   pub leaves : after ≡ announcement cabling ++ drop (length (announcement cabling)) before
 
--- The rows describe a cabling whose announcement is too long for the row `before`, which stays.
+-- The rows describe a proper cabling whose announcement is too long for the words `before`, which stay.
 pub record No-room (rows : List Row) (before : List ℕ) (a : Result ℕ DescriptionStop) (after : List ℕ) : Type 0 where
   pub cabling : Cabling
   pub describes : Describes rows cabling
@@ -54,7 +54,7 @@ pub record No-room (rows : List Row) (before : List ℕ) (a : Result ℕ Descrip
   pub answers : a ≡ Err TooShort
   pub leaves : after ≡ before
 
--- The rows describe no cabling, and the row `before` stays.
+-- The rows describe no proper cabling, and the words `before` stay.
 pub record No-tree (rows : List Row) (before : List ℕ) (a : Result ℕ DescriptionStop) (after : List ℕ) : Type 0 where
   pub none : (c : Cabling) → Describes rows c → Proper c → ⊥
   pub answers : a ≡ Err NoTree
@@ -66,15 +66,15 @@ pub data Announced (rows : List Row) (before : List ℕ) (a : Result ℕ Descrip
   no-room : No-room rows before a after → Announced rows before a after
   no-tree : No-tree rows before a after → Announced rows before a after
 
--- Rows that are refused before their tree is looked at have that stop and leave the row `before` as it is.
+-- Rows that are refused before their tree is looked at have that stop and leave the words `before` as they are.
 abbrev pub Outcome : Option DescriptionStop → List Row → List ℕ → Result ℕ DescriptionStop → List ℕ → Type 0
 Outcome (Some s) rows before a after = (a ≡ Err s) × (after ≡ before)
 Outcome None rows before a after = Announced rows before a after
 
--- The rows are announced into the row `before`, which is then `after`; the stack rows have so many elements.
-abbrev pub Announce-call : List Row → (reach walk : ℕ) → List ℕ → Result ℕ DescriptionStop → List ℕ → Type 0
-Announce-call rows reach walk before a after = Outcome (refused rows reach walk) rows before a after
+-- The rows are announced into the words `before`, which are then `after`; the two stack rows have room for so many elements.
+abbrev pub Announce-call : List Row → (reach-room walk-room : ℕ) → List ℕ → Result ℕ DescriptionStop → List ℕ → Type 0
+Announce-call rows reach-room walk-room before a after = Outcome (refused rows reach-room walk-room) rows before a after
 
--- Rows describe one cabling only.
+-- Rows describe at most one cabling.
 abbrev pub Describe-one-cabling : Type 0
 Describe-one-cabling = (rows : List Row) (c d : Cabling) → Describes rows c → Describes rows d → c ≡ d

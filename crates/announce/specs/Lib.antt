@@ -1,7 +1,7 @@
 pub mod Stops
 pub mod Description
 pub mod Announcing
--- Words of the inner functions.
+-- Definitions for the inner functions.
 pub mod Rows
 pub mod Reach
 pub mod Writing

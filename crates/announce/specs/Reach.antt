@@ -1,4 +1,4 @@
--- Words of the inner functions: rows that are reached from row 0.
+-- Definitions for the inner functions: rows that are reached from row 0.
 use mathlib.Core.Path.{_≡_}
 use mathlib.Core.Bool.{Bool, true, false, cond, not, _||_}
 use mathlib.Core.List.{List, [], _∷_}
@@ -39,14 +39,14 @@ pub record Waiting (n : ℕ) (waiting : List ℕ) (reached : List Bool) : Type 0
   pub once : (i : ℕ) → times i waiting ≤ hit reached i
   pub rows-only : (i : ℕ) → n ≤ i → hit reached i ≡ 0
 
--- Row 0 describes a cabling, and the rows of whatever it describes are those that are reached, each once.
-pub record Reached-all (rows : List Row) (reached : List Bool) : Type 0 where
+-- Row 0 describes a cabling, and `reached` has just the rows of what it describes, each of them once.
+pub record Reached-rows (rows : List Row) (reached : List Bool) : Type 0 where
   pub cabling : Cabling
   pub describes : Describes-at rows 0 cabling
   pub counts : (c : Cabling) → Describes-at rows 0 c → (i : ℕ) → times i (rows-of rows 0 c) ≡ hit reached i
 
--- There are 1 to 63 rows, and all of them are in range.
-pub record In-order (rows : List Row) : Type 0 where
+-- There are 1 to 63 rows, all of them in range and with all their ports.
+pub record Well-formed (rows : List Row) : Type 0 where
   pub some : 1 ≤ length rows
   pub few : length rows ≤ node-limit
   pub in-range : every (row-in-range (length rows)) rows ≡ true

@@ -1,4 +1,4 @@
--- Words of the inner functions: what is read of a row.
+-- Definitions for the inner functions: what is read of a row.
 use mathlib.Core.Path.{_≡_}
 use mathlib.Core.Bool.{Bool}
 use mathlib.Core.List.{List}

@@ -1,4 +1,4 @@
--- Words of the inner functions: quadlets written into a row of words.
+-- Definitions for the inner functions: quadlets written into a row of words.
 use mathlib.Core.Bool.{cond}
 use mathlib.Core.List.{List, [], _∷_, _++_}
 use Prim.Native.Nat.{ℕ, _+_}

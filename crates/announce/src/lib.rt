@@ -22,7 +22,8 @@ use crate::writing::words_needed;
 use crate::writing::write_all;
 
 // Writes the announcement of the cabling that the rows describe to the front of the words, and answers its length.
-// A description that is refused leaves the words as they are. The two stack rows need an element for each row; what they hold then is left over.
+// A description that is refused leaves the words as they are. The two stack rows need an element for each row:
+// `reach` keeps rows that wait while the tree is tested, `walk` where the writing stands. What they hold then is left over.
 pub fn announce(
     rows: &[Row],
     reach: &mut [u8],

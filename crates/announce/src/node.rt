@@ -6,7 +6,7 @@ ghost use Prim.Native.Nat.{suc, _+_, _*_, _<_, _≤_};
 ghost use lib.ListN.{length, getD, drop};
 ghost use Rattle.selfid.specs.declared.mark.Mark.the-variants.{Absent};
 ghost use Rattle.selfid.specs.Marks.{present};
-ghost use Rattle.selfid.specs.Nodes.{extensions};
+ghost use Rattle.selfid.specs.Nodes.{extension-limit, extensions};
 ghost use Rattle.selfid.specs.Packets.{zero-word, extension-word, with-inverses};
 ghost use Rattle.announce.specs.Writing.{put, node-quadlets};
 use selfid::codec::inverse;
@@ -37,17 +37,16 @@ fn present_from(marks: &[Mark; PORT_LIMIT], first: usize) -> bool
 fn mark_at(marks: &[Mark; PORT_LIMIT], port: usize) -> Mark
     ensures is_the_mark { λ r. ⌜ r ≡ getD (now (marks .entry)) port Absent ⌝ }
 {
-    if port < PORT_LIMIT {
-        marks[port]
-    } else {
-        Mark::Absent
+    match marks.get(port) {
+        Some(mark) => *mark,
+        None => Mark::Absent,
     }
 }
 
-// How many packets a node with these marks sends.
+// How many packets a node with these marks sends, whatever its number.
 pub(crate) fn count_packets(marks: &[Mark; PORT_LIMIT]) -> usize
     ensures at_most_three { λ r. ⌜ r ≤ 3 ⌝ }
-    ensures counts_packet_zero_and_the_extensions { λ r. ⌜ r ≡ suc (length (extensions 2 0 0 (drop 3 (now (marks .entry))))) ⌝ }
+    ensures counts_packet_zero_and_the_extensions { λ r. ⌜ r ≡ suc (length (extensions extension-limit 0 0 (drop 3 (now (marks .entry))))) ⌝ }
 {
     for turn in 0..EXTENSION_LIMIT {
         if !present_from(marks, EXTENSION_PORTS * turn + ZERO_PORTS) {

@@ -7,9 +7,10 @@ ghost use lib.ListN.{length};
 ghost use Rattle.std.specs.declared.option.Option.the-variants.{Some, None};
 ghost use Rattle.std.specs.Orderings.{When};
 ghost use Rattle.std.specs.Results.{Cases as ByOk};
+ghost use Rattle.selfid.specs.Nodes.{port-limit};
 ghost use Rattle.announce.specs.Announcing.{every, port-in-range, refused, row-in-range};
 ghost use Rattle.announce.specs.Description.{ports-at};
-ghost use Rattle.announce.specs.Reach.{In-order};
+ghost use Rattle.announce.specs.Reach.{Well-formed};
 ghost use Rattle.announce.specs.Rows.{is-mark, Have-marks, Tells-node};
 use crate::described::Row;
 use crate::described::RowPort;
@@ -42,7 +43,7 @@ fn ports_in_range(ports: &[RowPort], rows: usize) -> bool
 // Are the row's fields, mark codes and child rows in range, where there are so many rows?
 pub(crate) fn in_range(row: &Row, rows: usize) -> bool
     ensures tells_if_it_is { λ r. ⌜ r ≡ row-in-range rows (now (row .entry)) ⌝ }
-    ensures has_all_ports { λ _. ⌜ length (now (row .entry) .ports) ≡ 16 ⌝ }
+    ensures has_all_ports { λ _. ⌜ length (now (row .entry) .ports) ≡ port-limit ⌝ }
 {
     let ports = ports_in_range(&row.ports, rows);
     row.gap < 64 && row.speed < 3 && row.power < 8 && ports
@@ -89,7 +90,7 @@ pub(crate) fn node_of(row: &Row, rows: usize) -> Node
 // Are all rows in range?
 fn all_in_range(rows: &[Row]) -> bool
     ensures tells_if_all_are { λ r. ⌜ r ≡ every (row-in-range (length (now (rows .entry)))) (now (rows .entry)) ⌝ }
-    ensures each_has_all_ports { λ r. ⌜ When r ((i : ℕ) → i < length (now (rows .entry)) → length (ports-at (now (rows .entry)) i) ≡ 16) (Unit {0}) ⌝ }
+    ensures each_has_all_ports { λ r. ⌜ When r ((i : ℕ) → i < length (now (rows .entry)) → length (ports-at (now (rows .entry)) i) ≡ port-limit) (Unit {0}) ⌝ }
 {
     for row in rows {
         if !in_range(row, rows.len()) {
@@ -100,15 +101,19 @@ fn all_in_range(rows: &[Row]) -> bool
 }
 
 // What refuses a description before its tree is looked at: how many rows there are, that a stack row is too short for them, or that something is out of range.
-pub(crate) fn check_rows(rows: &[Row], reach: usize, walk: usize) -> Result<(), DescriptionStop>
-    ensures is_the_first_that_applies { λ r. ⌜ ByOk r (λ _. refused (now (rows .entry)) reach walk ≡ None) (λ s. refused (now (rows .entry)) reach walk ≡ Some s) ⌝ }
-    ensures passes_rows_in_order { λ r. ⌜ ByOk r (λ _. In-order (now (rows .entry)) × (length (now (rows .entry)) ≤ reach) × (length (now (rows .entry)) ≤ walk)) (λ _. Unit {0}) ⌝ }
+pub(crate) fn check_rows(
+    rows: &[Row],
+    reach_room: usize,
+    walk_room: usize,
+) -> Result<(), DescriptionStop>
+    ensures is_the_first_that_applies { λ r. ⌜ ByOk r (λ _. refused (now (rows .entry)) «reach_room» «walk_room» ≡ None) (λ s. refused (now (rows .entry)) «reach_room» «walk_room» ≡ Some s) ⌝ }
+    ensures passes_well_formed_rows { λ r. ⌜ ByOk r (λ _. Well-formed (now (rows .entry)) × (length (now (rows .entry)) ≤ «reach_room») × (length (now (rows .entry)) ≤ «walk_room»)) (λ _. Unit {0}) ⌝ }
 {
     let n = rows.len();
     if n == 0 || n > NODE_LIMIT {
         return Err(DescriptionStop::RowCount);
     }
-    if reach < n || walk < n {
+    if reach_room < n || walk_room < n {
         return Err(DescriptionStop::TooShort);
     }
     if !all_in_range(rows) {

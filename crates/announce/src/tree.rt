@@ -7,11 +7,11 @@ ghost use lib.Dec.{eqb};
 ghost use lib.ListN.{length};
 ghost use Rattle.std.specs.Orderings.{When};
 ghost use Rattle.std.specs.Results.{Cases as ByOk};
-ghost use Rattle.selfid.specs.Cabling.{Cabling, Proper};
+ghost use Rattle.selfid.specs.Cabling.{Cabling, Proper, node-limit};
 ghost use Rattle.announce.specs.declared.stop.DescriptionStop.the-variants.{NoTree};
 ghost use Rattle.announce.specs.Description.{Describes, times};
 ghost use Rattle.stack.specs.Held.{held, room};
-ghost use Rattle.announce.specs.Reach.{children, onto, hit, Children-below, Waiting, Reached-all, In-order, ups-of, ups-due, Placed, Described};
+ghost use Rattle.announce.specs.Reach.{children, onto, hit, Children-below, Waiting, Reached-rows, Well-formed, ups-of, ups-due, Placed, Described};
 use crate::described::Row;
 use crate::described::RowPort;
 use crate::stop::DescriptionStop;
@@ -26,7 +26,7 @@ fn reach_children(
     stack: &mut Stack<'_, u8>,
 ) -> Result<(), DescriptionStop>
     requires children_are_rows { ⌜ Children-below rows (now ports) ⌝ }
-    requires rows_fit { ⌜ rows ≤ 63 ⌝ ∗ ⌜ rows ≤ room (now stack) ⌝ }
+    requires rows_fit { ⌜ rows ≤ node-limit ⌝ ∗ ⌜ rows ≤ room (now stack) ⌝ }
     requires each_waits_once { ⌜ Waiting rows (held (now stack)) (now reached) ⌝ }
     ensures keeps_the_room { λ r. ⌜ room (now (stack .exit)) ≡ room (now (stack .entry)) ⌝ }
     ensures children_wait { λ r. ⌜ ByOk r (λ _. held (now (stack .exit)) ≡ onto (children (now (ports .entry))) (held (now (stack .entry)))) (λ _. Unit {0}) ⌝ }
@@ -50,15 +50,15 @@ fn reach_children(
 }
 
 // The rows that are reached from row 0, which waits first, then its children and theirs. A row that is reached twice is refused.
-fn reach_all(rows: &[Row], row: &mut [u8]) -> Result<[bool; NODE_LIMIT], DescriptionStop>
-    requires rows_are_in_order { ⌜ In-order (now rows) ⌝ }
-    requires rows_fit_the_stack { ⌜ length (now rows) ≤ length (now row) ⌝ }
-    ensures each_is_reached_once { λ r. ⌜ ByOk r (λ reached. Reached-all (now (rows .entry)) reached) (λ _. Unit {0}) ⌝ }
+fn reach_all(rows: &[Row], waiting: &mut [u8]) -> Result<[bool; NODE_LIMIT], DescriptionStop>
+    requires rows_are_well_formed { ⌜ Well-formed (now rows) ⌝ }
+    requires rows_fit_the_stack { ⌜ length (now rows) ≤ length (now waiting) ⌝ }
+    ensures each_is_reached_once { λ r. ⌜ ByOk r (λ reached. Reached-rows (now (rows .entry)) reached) (λ _. Unit {0}) ⌝ }
     ensures refuses_what_describes_no_cabling { λ r. ⌜ ByOk r (λ _. Unit {0}) (λ e. (e ≡ NoTree) × ((c : Cabling) → Describes (now (rows .entry)) c → ⊥)) ⌝ }
 {
     let mut reached = [false; NODE_LIMIT];
     reached[0] = true;
-    let mut stack = Stack::new(row);
+    let mut stack = Stack::new(waiting);
     let Ok(()) = stack.push(0) else {
         unreachable();
     };
@@ -96,7 +96,7 @@ fn has_its_ups(ports: &[RowPort], i: usize) -> bool
 
 // Is each row reached, and has each the up marks that are due?
 fn all_placed(rows: &[Row], reached: &[bool; NODE_LIMIT]) -> bool
-    requires few_rows { ⌜ length (now rows) ≤ 63 ⌝ }
+    requires few_rows { ⌜ length (now rows) ≤ node-limit ⌝ }
     ensures tells_if_all_are { λ r. ⌜ When r ((i : ℕ) → i < length (now (rows .entry)) → Placed (now (rows .entry)) (now (reached .entry)) i) ((i : ℕ) × (i < length (now (rows .entry))) × (Placed (now (rows .entry)) (now (reached .entry)) i → ⊥)) ⌝ }
 {
     for (i, row) in rows.iter().enumerate() {
@@ -110,14 +110,14 @@ fn all_placed(rows: &[Row], reached: &[bool; NODE_LIMIT]) -> bool
     true
 }
 
-// Do the rows describe a cabling? The stack row lends room for the rows that wait.
-pub(crate) fn check_tree(rows: &[Row], row: &mut [u8]) -> Result<(), DescriptionStop>
-    requires rows_are_in_order { ⌜ In-order (now rows) ⌝ }
-    requires rows_fit_the_stack { ⌜ length (now rows) ≤ length (now row) ⌝ }
-    ensures passes_what_describes_a_cabling { λ r. ⌜ ByOk r (λ _. Described (now (rows .entry))) (λ _. Unit {0}) ⌝ }
+// Do the rows describe a proper cabling? The rows that wait for their children to be reached are kept in `waiting`.
+pub(crate) fn check_tree(rows: &[Row], waiting: &mut [u8]) -> Result<(), DescriptionStop>
+    requires rows_are_well_formed { ⌜ Well-formed (now rows) ⌝ }
+    requires rows_fit_the_stack { ⌜ length (now rows) ≤ length (now waiting) ⌝ }
+    ensures passes_what_describes_a_proper_cabling { λ r. ⌜ ByOk r (λ _. Described (now (rows .entry))) (λ _. Unit {0}) ⌝ }
     ensures refuses_what_describes_none { λ r. ⌜ ByOk r (λ _. Unit {0}) (λ e. (e ≡ NoTree) × ((c : Cabling) → Describes (now (rows .entry)) c → Proper c → ⊥)) ⌝ }
 {
-    let reached = reach_all(rows, row)?;
+    let reached = reach_all(rows, waiting)?;
     if all_placed(rows, &reached) {
         Ok(())
     } else {

@@ -8,7 +8,7 @@ ghost use Rattle.selfid.specs.Cabling.{Cabling};
 ghost use Rattle.selfid.specs.Announcement.{announcement};
 ghost use Rattle.announce.specs.Description.{Describes};
 ghost use Rattle.stack.specs.Held.{held, room};
-ghost use Rattle.announce.specs.Reach.{In-order, Described};
+ghost use Rattle.announce.specs.Reach.{Well-formed, Described};
 ghost use Rattle.announce.specs.Writing.{put, down-from};
 use crate::described::Row;
 use crate::described::RowPort;
@@ -44,7 +44,7 @@ fn next_down(ports: &[RowPort], from: usize) -> Option<Found>
 
 // How many words the announcement of these rows takes.
 pub(crate) fn words_needed(rows: &[Row]) -> usize
-    requires rows_are_in_order { ⌜ In-order (now rows) ⌝ }
+    requires rows_are_well_formed { ⌜ Well-formed (now rows) ⌝ }
     ensures is_the_length_of_what_they_announce { λ r. ⌜ ((c : Cabling) → Describes (now (rows .entry)) c → r ≡ length (announcement c)) ⌝ }
 {
     let mut needed = 0;
@@ -76,7 +76,7 @@ fn enter(stack: &mut Stack<'_, Frame>, row: u8, found: Found)
 
 // Writes the announcement of the rows to the front of the words, and answers its length.
 pub(crate) fn write_all(rows: &[Row], frames: &mut [Frame], words: &mut [u32]) -> usize
-    requires rows_are_in_order { ⌜ In-order (now rows) ⌝ }
+    requires rows_are_well_formed { ⌜ Well-formed (now rows) ⌝ }
     requires rows_describe_a_cabling { ⌜ Described (now rows) ⌝ }
     requires rows_fit_the_stack { ⌜ length (now rows) ≤ length (now frames) ⌝ }
     requires there_is_room { ⌜ ((c : Cabling) → Describes (now rows) c → length (announcement c) ≤ length (now words)) ⌝ }

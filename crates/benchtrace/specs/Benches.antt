@@ -1,7 +1,7 @@
 -- Two of the benches as cablings, and the quadlets that they announce: the definitions tried on words that were worked out by hand.
 use mathlib.Core.Path.{_≡_}
 use mathlib.Core.Bool.{Bool, true, false}
-use mathlib.Core.List.{List, [], _∷_}
+use mathlib.Core.List.{[], _∷_}
 use Prim.Native.Nat.{ℕ, zero, suc, _<_}
 use lib.Dec.{lit<}
 use Rattle.selfid.specs.declared.node.Fields.{Fields}

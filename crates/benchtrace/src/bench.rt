@@ -8,7 +8,7 @@ use selfid::speed::Speed;
 use std::alloc::AllocError;
 use std::alloc::Global;
 
-// A port without a cable.
+// A port without a child.
 fn port(mark: Mark) -> RowPort {
     RowPort {
         mark: mark.code(),
@@ -54,7 +54,7 @@ fn with(mut row: Row, first: usize, ports: &[RowPort]) -> Row {
     row
 }
 
-// A root with a camera on port 0 and one on port 2, port 1 open.
+// Three cameras: the root has one on port 0 and one on port 2, and its port 1 is open.
 pub(crate) fn three_cameras(heap: Global) -> Result<Vec<Row>, AllocError> {
     let root = with(
         manager(node(Speed::S400, 0)),

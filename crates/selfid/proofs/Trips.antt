@@ -19,7 +19,7 @@ use Rattle.selfid.specs.declared.packet.Packet.the-variants.{Zero, Extension a
 use Rattle.selfid.specs.declared.packet.PacketFlaw.the-variants.{ReservedBit}
 use Rattle.selfid.specs.Marks.{mark-code, present}
 use Rattle.selfid.specs.Packets.{bit}
-use Rattle.selfid.specs.Reading.{word-of, bits, mark-in, speed-in, zero-in, extension-in, fields-in, read-zero, read-extension, reserved-set, packet-in, within-ports}
+use Rattle.selfid.specs.Reading.{word-of, bits, mark-in, speed-in, zero-in, extension-in, fields-in, read-zero, read-extension, reserved-set, packet-in, marks-existing-ports}
 use Rattle.selfid.proofs.Same.{same-fields, same-zero, same-extension}
 use Rattle.selfid.proofs.Digits.{mark-back, speed-back, bit-back, speed-small, mark-again, speed-again, bit-again, Zero-digits, zero-digits, Extension-digits, extension-digits}
 
@@ -110,7 +110,7 @@ refused-or-read true false x y = refl
 refused-or-read false true x y = refl
 refused-or-read false false x y = refl
 
-pub extension-trip : (p : Extension) → length (p .marks) ≡ 8 → packet-in (word-of (Further p)) ≡ cond (within-ports (Further p)) (Ok (Further p)) (Err ReservedBit)
+pub extension-trip : (p : Extension) → length (p .marks) ≡ 8 → packet-in (word-of (Further p)) ≡ cond (marks-existing-ports (Further p)) (Ok (Further p)) (Err ReservedBit)
 extension-trip p len =
     let q = word-of (Further p) in
     let ms = p .marks in

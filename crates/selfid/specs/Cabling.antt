@@ -17,7 +17,8 @@ node-limit = 63
 pub data Childless : Type 0 where
   absent «open» up : Childless
 
--- A cabling, by its topmost node: the node's fields, and its ports in rising number. A down port holds the child with all that hangs below it.
+-- A tree of nodes, by its topmost node: the node's fields, and its ports in rising number. A down port holds the child with all that hangs below it.
+-- The type is wider than the subject: which trees are cablings of a bus says `Proper`, below.
 -- Two cablings are the same if tree, fields and marks agree, which is what ≡ says of them.
 mutual
   pub data Cabling : Type 0 where
@@ -58,7 +59,7 @@ abbrev mutual
   Sound-below (plain k ps) = Sound-below ps
   Sound-below (down c ps) = Sound 1 c × Sound-below ps
 
--- A proper cabling: the root has no up port, every other node has just one, and there are at most 63 nodes.
+-- A proper cabling: every node has sixteen ports, the root no up port, every other node just one, and there are at most 63 nodes.
 pub record Proper (c : Cabling) : Type 0 where
   pub sound : Sound 0 c
   pub few : size c ≤ node-limit

@@ -17,7 +17,7 @@ bit false = 0
 abbrev pub code-at : List Mark → ℕ → ℕ
 code-at ms i = mark-code (getD ms i Absent)
 
--- Packet zero of node n with the fields x, where ms are the marks of the ports from port 0 on: it has the first three.
+-- Packet zero of node n, below 64, with the fields x, where ms are the marks of the ports from port 0 on: it has the first three.
 abbrev pub zero-word : (n : ℕ) → Fields → List Mark → (more : Bool) → ℕ
 zero-word n x ms more =
     2 * 2 ^ 30
@@ -33,7 +33,7 @@ zero-word n x ms more =
     + bit (x .initiator) * 2
     + bit more
 
--- Extension e of node n, where ms are the marks of the ports from port 8e + 3 on: it has the first eight.
+-- Extension e, below 8, of node n, below 64, where ms are the marks of the ports from port 8e + 3 on: it has the first eight.
 abbrev pub extension-word : (n e : ℕ) → List Mark → (more : Bool) → ℕ
 extension-word n e ms more =
     2 * 2 ^ 30
@@ -50,7 +50,7 @@ extension-word n e ms more =
     + code-at ms 7 * 2 ^ 2
     + bit more
 
--- The bitwise inverse of a quadlet.
+-- The bitwise inverse of a quadlet, a number below 2 ^ 32.
 abbrev pub inverse-of : ℕ → ℕ
 inverse-of q = 2 ^ 32 - 1 - q
 

@@ -98,7 +98,8 @@ read-extension q = cond (reserved-set q) (Err ReservedBit) (Ok (Further (extensi
 abbrev pub packet-in : ℕ → Result Packet PacketFlaw
 packet-in q = cond (eqb (q / 2 ^ 30) 2) (cond (eqb (bits 23 23 q) 1) (read-extension q) (read-zero q)) (Err NotSelfId)
 
--- The packet tells of no port behind port 15: in extension 1 the marks behind the fifth are absent.
-abbrev pub within-ports : Packet → Bool
-within-ports (Zero p) = true
-within-ports (Further p) = not (eqb (p .turn) 1) || not (present (drop (port-limit - 11) (p .marks)))
+-- Only extension 1 has mark bits that are reserved, those of its ports behind port 15: these ports are marked absent.
+-- (An extension numbered 2 or more is read too, though no node sends one.)
+abbrev pub marks-existing-ports : Packet → Bool
+marks-existing-ports (Zero p) = true
+marks-existing-ports (Further p) = not (eqb (p .turn) 1) || not (present (drop (port-limit - 11) (p .marks)))

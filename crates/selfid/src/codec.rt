@@ -8,7 +8,7 @@ ghost use Rattle.std.specs.declared.result.Result.the-variants.{Ok, Err};
 ghost use Rattle.selfid.specs.declared.packet.PacketFlaw.the-variants.{ReservedBit};
 ghost use Rattle.selfid.specs.Marks.{mark-code};
 ghost use Rattle.selfid.specs.Packets.{bit, zero-word, extension-word, inverse-of};
-ghost use Rattle.selfid.specs.Reading.{word-of, mark-in, speed-in, fields-in, extension-in, reserved-set, read-zero, read-extension, packet-in, within-ports};
+ghost use Rattle.selfid.specs.Reading.{word-of, mark-in, speed-in, fields-in, extension-in, reserved-set, read-zero, read-extension, packet-in, marks-existing-ports};
 ghost use Rattle.selfid.specs.Stops.{flaw-number};
 use crate::mark::Mark;
 use crate::node::Fields;
@@ -165,7 +165,7 @@ impl Packet {
     // The packet's word.
     pub fn encode(self) -> u32
         ensures is_the_word { λ r. ⌜ r ≡ word-of self ⌝ }
-        ensures decodes_to_itself { λ r. ⌜ packet-in r ≡ cond (within-ports self) (Ok self) (Err ReservedBit) ⌝ }
+        ensures decodes_to_itself_unless_reserved { λ r. ⌜ packet-in r ≡ cond (marks-existing-ports self) (Ok self) (Err ReservedBit) ⌝ }
     {
         match self {
             Packet::Zero(packet) => encode_zero(packet),

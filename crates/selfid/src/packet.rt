@@ -24,7 +24,8 @@ pub struct PacketZero {
     ghost number_in_range: { number < 64 },
 }
 
-// A later packet of a node, extension `turn`, with the marks of the eight ports from 8 × turn + 3 on.
+// A later packet of a node: extension number `turn`, with the marks of the eight ports from 8 × turn + 3 on.
+// Any number that three bits hold can be told apart here; a node sends none but the first of them.
 #[derive(Clone, Copy)]
 pub struct Extension {
     pub number: u8,
@@ -41,7 +42,7 @@ pub enum Packet {
     Extension(Extension),
 }
 
-// Why a word is no packet.
+// Why a word is no packet: its top bits are not those of a self-ID packet; or a reserved bit is set, or packet zero has the speed code 3.
 #[derive(Clone, Copy)]
 pub enum PacketFlaw {
     NotSelfId,

@@ -14,7 +14,7 @@ use super::Stack;
 pub struct Full;
 
 impl<'a, T: Copy> Stack<'a, T> {
-    // An empty stack over this row.
+    // An empty stack over this row, whose elements mean nothing from here on.
     pub fn new(row: &'a mut [T]) -> Stack<'a, T>
         ensures is_empty { λ r. ⌜ held r ≡ [] ⌝ }
         ensures has_the_room_of_the_row { λ r. ⌜ room r ≡ length (now (row .entry)) ⌝ }

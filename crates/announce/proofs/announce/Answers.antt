@@ -42,7 +42,7 @@ pub returns-then-words-words-needed : need.returns-then-words-words-needed
 returns-then-words-words-needed c =
     let words = c .args .words .now in
     let first = c .in-Continue-check-rows .ensures tt .is-the-first-that-applies in
-    let known = c .in-Continue-check-tree .ensures tt .passes-what-describes-a-cabling in
+    let known = c .in-Continue-check-tree .ensures tt .passes-what-describes-a-proper-cabling in
     let long = c .words-needed .ensures .is-the-length-of-what-they-announce (known .cabling) (known .describes) in
     record {
       announces-what-the-rows-describe =
@@ -57,7 +57,7 @@ pub returns : need.returns
 returns c =
     let words = c .args .words .now in
     let first = c .in-Continue-check-rows .ensures tt .is-the-first-that-applies in
-    let known = c .in-Continue-check-tree .ensures tt .passes-what-describes-a-cabling in
+    let known = c .in-Continue-check-tree .ensures tt .passes-what-describes-a-proper-cabling in
     let long = c .words-needed .ensures .is-the-length-of-what-they-announce (known .cabling) (known .describes) in
     let row = c .write-all .ensures .writes-it-and-keeps-the-rest (known .cabling) (known .describes) in
     record {

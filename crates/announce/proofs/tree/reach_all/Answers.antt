@@ -11,7 +11,7 @@ use Rattle.announce.proofs.tree.reach_all.Needs as need
 pub loop-next-holds : need.loop-next-holds
 loop-next-holds c =
     let e = c .in-Ok .ensures tt .puts-it-on-top ∙ ap (λ l. 0 ∷ l) (c .new-stack .ensures .is-empty) in
-    (refl, refl, rw e (begun (c .args .rows .now) (c .pre .rows-are-in-order .some)))
+    (refl, refl, rw e (begun (c .args .rows .now) (c .pre .rows-are-well-formed .some)))
 
 pub index-rows-next : need.index-rows-next
 index-rows-next c =
@@ -21,7 +21,7 @@ index-rows-next c =
 pub reach-children-requires : need.reach-children-requires
 reach-children-requires c κs =
     let rows = c .args .rows .now in
-    let order = c .pre .rows-are-in-order in
+    let order = c .pre .rows-are-well-formed in
     let w = rw (c .in-Some .ensures tt .takes-the-top-if-any) at (c .loop-next .inv .2) in
     let small = next-small (length rows) (c .in-Some .next) (held (c .pop .last .self)) (c .loop-next .reached) (w .once) in
     record {
@@ -33,7 +33,7 @@ reach-children-requires c κs =
 pub loop-next-less : need.loop-next-less
 loop-next-less c =
     let rows = c .args .rows .now in
-    let order = c .pre .rows-are-in-order in
+    let order = c .pre .rows-are-well-formed in
     let top = c .in-Some .ensures tt .takes-the-top-if-any in
     let w = rw top at (c .loop-next .inv .2) in
     let small = next-small (length rows) (c .in-Some .next) (held (c .pop .last .self)) (c .loop-next .reached) (w .once) in
@@ -43,7 +43,7 @@ loop-next-less c =
 pub loop-next-again : need.loop-next-again
 loop-next-again c =
     let rows = c .args .rows .now in
-    let order = c .pre .rows-are-in-order in
+    let order = c .pre .rows-are-well-formed in
     let w = rw (c .in-Some .ensures tt .takes-the-top-if-any) at (c .loop-next .inv .2) in
     let small = next-small (length rows) (c .in-Some .next) (held (c .pop .last .self)) (c .loop-next .reached) (w .once) in
     let more = put-on rows (c .in-Some .next) no-row (held (c .pop .last .self)) (c .loop-next .reached) (c .reach-children .last .reached) order w (children-here rows (c .in-Some .next) no-row (order .in-range) small) (c .in-Continue-reach-children .ensures tt .children-are-reached) in (
@@ -55,7 +55,7 @@ loop-next-again c =
 pub returns-in-Break-reach-children : need.returns-in-Break-reach-children
 returns-in-Break-reach-children c =
     let rows = c .args .rows .now in
-    let order = c .pre .rows-are-in-order in
+    let order = c .pre .rows-are-well-formed in
     let w = rw (c .in-Some .ensures tt .takes-the-top-if-any) at (c .loop-next .inv .2) in
     let p = err-from-errBy (c .from-residual .result) (c .from-residual .ensures .1) in
     let (stop, (k, l, two)) = c .in-Break-reach-children .ensures tt .refuses-a-row-reached-twice in

@@ -11,13 +11,13 @@ use Rattle.announce.proofs.Lengths.{marks-read, read-back, packet-count, packe
 use Rattle.announce.proofs.writing.words_needed.Needs as need
 
 pub node-of-requires : need.node-of-requires
-node-of-requires c κs = record { is-in-range = every-at (row-in-range (length (c .args .rows .now))) (c .args .rows .now) (c .loop-row .row-index) no-row (c .pre .rows-are-in-order .in-range) (c .loop-row-test .taken) }
+node-of-requires c κs = record { is-in-range = every-at (row-in-range (length (c .args .rows .now))) (c .args .rows .now) (c .loop-row .row-index) no-row (c .pre .rows-are-well-formed .in-range) (c .loop-row-test .taken) }
 
 pub mul-needed : need.mul-needed
 mul-needed c = search needs
 
 pub add-needed : need.add-needed
-add-needed c = omega (arith, c .count-packets .ensures .at-most-three, c .loop-row .inv .1, c .pre .rows-are-in-order .few)
+add-needed c = omega (arith, c .count-packets .ensures .at-most-three, c .loop-row .inv .1, c .pre .rows-are-well-formed .few)
 
 pub loop-row-again : need.loop-row-again
 loop-row-again c =

@@ -60,7 +60,7 @@ node-of-requires c κs =
     let known = c .pre .rows-describe-a-cabling in
     let w = rw (c .in-Some .ensures tt .takes-the-top-if-any) at (c .loop-frame .inv .1 (known .cabling) (known .describes)) in
     let small = frame-row rows (known .cabling) (c .in-Some .frame) _ _ _ _ _ w in
-    record { is-in-range = every-at (row-in-range (length rows)) rows (c .in-Some .frame .row) no-row (c .pre .rows-are-in-order .in-range) small }
+    record { is-in-range = every-at (row-in-range (length rows)) rows (c .in-Some .frame .row) no-row (c .pre .rows-are-well-formed .in-range) small }
 
 pub write-node-at-requires : need.write-node-at-requires
 write-node-at-requires c κs =
@@ -73,7 +73,7 @@ write-node-at-requires c κs =
     let few = frames-few rows (known .cabling) _ _ _ _ _ (known .describes) w in
     let next = node-next rows (known .cabling) f _ _ _ _ _ x w small (c .node-of .ensures .is-told-by-the-row) (looked rows f None small (c .in-None .ensures tt .is-the-first-from-there-on)) in
     record {
-      number-fits = omega (arith, few, c .pre .rows-are-in-order .few);
+      number-fits = omega (arith, few, c .pre .rows-are-well-formed .few);
       there-is-room = node-room rows (known .cabling) f _ _ _ _ _ x w next (c .pre .there-is-room (known .cabling) (known .describes));
     }
 
