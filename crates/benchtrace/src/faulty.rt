@@ -1,5 +1,8 @@
 //! Descriptions that are refused: the bench of three with one thing spoiled.
 
+ghost use mathlib.Core.Path.{_≡_};
+ghost use Prim.Native.Nat.{_<_};
+ghost use lib.ListN.{length};
 use announce::described::Row;
 
 // What is spoiled.
@@ -19,7 +22,9 @@ pub(crate) enum Fault {
 }
 
 // Spoils the rows of the bench of three. Fewer rows than that stay as they are.
-pub(crate) fn spoil(rows: &mut [Row], fault: Fault) {
+pub(crate) fn spoil(rows: &mut [Row], fault: Fault)
+    ensures leaves_fewer_rows_alone { λ _. ⌜ (length (now (rows .entry)) < 3 → now (rows .exit) ≡ now (rows .entry)) ⌝ }
+{
     if rows.len() < 3 {
         return;
     }
