@@ -72,7 +72,7 @@ fn encode_extension(packet: Extension) -> u32
 
 // The `width` bits of a word from bit `low` up, as a number.
 fn field(word: u32, low: u32, width: u32) -> u32
-    requires within_the_word { ⌜ low < 32 ⌝ ∗ ⌜ width < 32 ⌝ }
+    requires shifts_fit { ⌜ low < 32 ⌝ ∗ ⌜ width < 32 ⌝ }
     ensures is_the_number_in_these_bits { λ r. ⌜ r ≡ word / 2 ^ low % 2 ^ width ⌝ }
 {
     (word >> low) & ((1 << width) - 1)
@@ -90,7 +90,7 @@ fn mark_at(word: u32, low: u32) -> Mark
     }
 }
 
-// The fields in packet zero, but for the speed.
+// The fields in packet zero. Its speed is read first, since not every code stands for one.
 fn fields_in(word: u32, speed: Speed) -> Fields
     requires the_speed_is_read { ⌜ speed ≡ speed-in (word / 2 ^ 14 % 4) ⌝ }
     ensures are_the_fields_in_it { λ r. ⌜ r ≡ fields-in word ⌝ }
