@@ -1,4 +1,4 @@
--- Two of the benches as cablings, and the quadlets that they announce: the definitions tried on words that were worked out by hand.
+-- Two of the benches as cablings, and the quadlets that they announce: the definitions tried on words that were worked out apart from them.
 use mathlib.Core.Path.{_≡_}
 use mathlib.Core.Bool.{Bool, true, false}
 use mathlib.Core.List.{[], _∷_}
