@@ -151,6 +151,21 @@ behind-found rows f g o a n =
 top-opened : (rows : List Row) (i : ℕ) (y : Fields) (qs : Ports) → Describes-at rows i (node y qs) → Opens rows (record { row = i; port = 0 }) (record { fields = y; marks = marks-of qs; left = qs })
 top-opened rows i y qs d = record { fields = d .0; marks = marks-told rows qs (ports-at rows i) (d .1); left = d .1 }
 
+-- The row of a frame is a row, and there are no more frames than nodes to be written.
+pub frame-row : (rows : List Row) (c : Cabling) (f : Frame) (fs : List Frame) (number at : ℕ) (before row : List ℕ) → Writing rows c (f ∷ fs) number at before row → f .row < length rows
+frame-row rows c f fs number at before row w = go (w .opened) (w .stands)
+  where
+    go : (os : List Open-node) → All-open rows (f ∷ fs) os → f .row < length rows
+    go [] a = absurd a
+    go (o ∷ os) a = row-small rows (f .row) (o .fields) (a .0 .fields)
+
+pub frames-few : (rows : List Row) (c : Cabling) (fs : List Frame) (number at : ℕ) (before row : List ℕ) → Describes rows c → Writing rows c fs number at before row → number + length fs ≤ length rows
+frames-few rows c fs number at before row t w = omega (arith, w .count, few-open rows fs (w .opened) (w .stands), size-told rows c t)
+
+-- What a look through the ports of the frame's row tells.
+pub looked : (rows : List Row) (f : Frame) (r : Option Found) → f .row < length rows → r ≡ down-from (f .port) (drop (f .port) (getD rows (f .row) no-row .ports)) → down-from (f .port) (drop (f .port) (ports-at rows (f .row))) ≡ r
+looked rows f r h e = ap (λ ports. down-from (f .port) (drop (f .port) ports)) (ports-here rows (f .row) no-row h) ∙ sym e
+
 module _ (rows : List Row) (c : Cabling) (f : Frame) (fs : List Frame) (number at : ℕ) (before row : List ℕ) where
   -- A down port is left: its child is opened.
   child-opened : (g : Found) (w : Writing rows c (f ∷ fs) number at before row) (o : Open-node) (os : List Open-node) → w .opened ≡ o ∷ os → (n : Next rows (o .left) (drop (f .port) (ports-at rows (f .row))) (f .port) g) (d : Cabling) → Opens rows f o → All-open rows fs os → Describes-at rows (g .child) d → size-below (o .left) ≡ size d + size-below (n .behind) → packets-below number (o .left) ≡ packets-from number d ++ packets-below (number + size d) (n .behind) → Writing rows c (record { row = g .child; port = 0 } ∷ record { row = f .row; port = g .next } ∷ fs) number at before row
@@ -171,8 +186,8 @@ module _ (rows : List Row) (c : Cabling) (f : Frame) (fs : List Frame) (number a
       let n = next-child rows (o .left) (drop (f .port) (ports-at rows (f .row))) (f .port) g (a .0 .left) d in
       child-opened g w o os e n (n .child) (a .0) (a .1) (n .describes) (n .sizes) (n .sends number)
 
-  pub descends : (g : Found) → Writing rows c (f ∷ fs) number at before row → down-from (f .port) (drop (f .port) (ports-at rows (f .row))) ≡ Some g → Writing rows c (record { row = g .child; port = 0 } ∷ record { row = f .row; port = g .next } ∷ fs) number at before row
-  descends g w d = descend g w (w .opened) refl (w .stands) d
+  pub descends : (g : Found) → Writing rows c (f ∷ fs) number at before row → Some g ≡ down-from (f .port) (drop (f .port) (getD rows (f .row) no-row .ports)) → Writing rows c (record { row = g .child; port = 0 } ∷ record { row = f .row; port = g .next } ∷ fs) number at before row
+  descends g w d = descend g w (w .opened) refl (w .stands) (looked rows f (Some g) (frame-row rows c f fs number at before row w) d)
 
   -- None is left: the node itself is the next that is written.
   pub record Node-next (x : Node) (w : Writing rows c (f ∷ fs) number at before row) : Type 0 where
@@ -230,8 +245,11 @@ module _ (rows : List Row) (c : Cabling) (f : Frame) (fs : List Frame) (number a
           filled = ap₂ (λ r k. put r k (with-inverses own)) (w .filled) here ∙ put-more before 0 (with-inverses (w .written)) (with-inverses own) (omega arith) ∙ ap (put before 0) (sym whole);
         }
 
-  pub node-next : (x : Node) (w : Writing rows c (f ∷ fs) number at before row) → f .row < length rows → Tells-node (getD rows (f .row) no-row) x → down-from (f .port) (drop (f .port) (ports-at rows (f .row))) ≡ None → Node-next x w
-  node-next x w h told d = let (xf, xm) = node-here rows (f .row) no-row x h told in node-is x w (w .opened) refl (w .stands) xf xm d
+  pub node-next : (x : Node) (w : Writing rows c (f ∷ fs) number at before row) → Tells-node (getD rows (f .row) no-row) x → None ≡ down-from (f .port) (drop (f .port) (getD rows (f .row) no-row .ports)) → Node-next x w
+  node-next x w told d =
+      let h = frame-row rows c f fs number at before row w in
+      let (xf, xm) = node-here rows (f .row) no-row x h told in
+      node-is x w (w .opened) refl (w .stands) xf xm (looked rows f None h d)
 
 -- No frame is left: all is written.
 pub all-written : (rows : List Row) (c : Cabling) (number at : ℕ) (before row : List ℕ) → Writing rows c [] number at before row → (at ≡ length (announcement c)) × (row ≡ put before 0 (announcement c))
@@ -242,18 +260,3 @@ all-written rows c number at before row w = go (w .opened) (w .stands) (w .all)
         let done : w .written ≡ packets c = sym (append-nil (w .written)) ∙ e in
         (w .place ∙ ap (λ qs. length (with-inverses qs)) done, w .filled ∙ ap (λ qs. put before 0 (with-inverses qs)) done)
     go (o ∷ os) a e = absurd a
-
--- The row of a frame is a row, and there are no more frames than nodes to be written.
-pub frame-row : (rows : List Row) (c : Cabling) (f : Frame) (fs : List Frame) (number at : ℕ) (before row : List ℕ) → Writing rows c (f ∷ fs) number at before row → f .row < length rows
-frame-row rows c f fs number at before row w = go (w .opened) (w .stands)
-  where
-    go : (os : List Open-node) → All-open rows (f ∷ fs) os → f .row < length rows
-    go [] a = absurd a
-    go (o ∷ os) a = row-small rows (f .row) (o .fields) (a .0 .fields)
-
-pub frames-few : (rows : List Row) (c : Cabling) (fs : List Frame) (number at : ℕ) (before row : List ℕ) → Describes rows c → Writing rows c fs number at before row → number + length fs ≤ length rows
-frames-few rows c fs number at before row t w = omega (arith, w .count, few-open rows fs (w .opened) (w .stands), size-told rows c t)
-
--- What a look through the ports of the frame's row tells.
-pub looked : (rows : List Row) (f : Frame) (r : Option Found) → f .row < length rows → r ≡ down-from (f .port) (drop (f .port) (getD rows (f .row) no-row .ports)) → down-from (f .port) (drop (f .port) (ports-at rows (f .row))) ≡ r
-looked rows f r h e = ap (λ ports. down-from (f .port) (drop (f .port) ports)) (ports-here rows (f .row) no-row h) ∙ sym e

@@ -18,7 +18,7 @@ use Rattle.announce.specs.Reach.{children, onto, hit, child-below, Children-be
 use Rattle.announce.proofs.Times.{is, is-same, is-other, times-onto, length-onto, total, total-add, total-same, length-total}
 use Rattle.announce.proofs.Forests.{children-other, children-down, Reach, start, step, come-to, done}
 use Rattle.announce.proofs.Reaching.{hit-small}
-use Rattle.announce.proofs.Told.{ports-here, ready}
+use Rattle.announce.proofs.Told.{ports-here, ready, children-here}
 
 -- How many of n rows are not reached yet.
 abbrev pub unreached : ℕ → List Bool → ℕ
@@ -60,7 +60,10 @@ module _ (rows : List Row) (i : ℕ) (d : Row) (js : List ℕ) (reached after : 
   pub taken-off : Waiting (length rows) js reached
   taken-off = record { once = λ k. omega (arith, w .once .once k); rows-only = w .once .rows-only }
 
-  module _ (all : Children-below (length rows) ports) (hits : (k : ℕ) → hit after k ≡ hit reached k + times k (children ports)) where
+  pub its-children : Children-below (length rows) ports
+  its-children = children-here rows i d (order .in-range) small
+
+  module _ (hits : (k : ℕ) → hit after k ≡ hit reached k + times k (children ports)) where
     pub put-on : Walking rows (onto (children ports) js) after
     put-on =
         let e = ports-here rows i d small in
@@ -68,7 +71,7 @@ module _ (rows : List Row) (i : ℕ) (d : Row) (js : List ℕ) (reached after : 
           once =
               record {
                 once = λ k. omega (arith, hits k, w .once .once k, times-onto k (children ports) js);
-                rows-only = λ k h. omega (arith, hits k, w .once .rows-only k h, no-more (length rows) ports all k h);
+                rows-only = λ k h. omega (arith, hits k, w .once .rows-only k h, no-more (length rows) ports its-children k h);
               };
           reach = rw (← e) (step rows i js (hit reached) (hit after) (ready rows i d (order .in-range) small) (λ k. rw e (hits k)) (w .reach));
         }
@@ -78,7 +81,7 @@ module _ (rows : List Row) (i : ℕ) (d : Row) (js : List ℕ) (reached after : 
         let n = length rows in
         let ks = children ports in
         let each = total-same (λ k. (1 - hit after k) + times k ks) (λ k. 1 - hit reached k) n (λ k l. omega (arith, hits k, hit-small after k)) in
-        omega (arith, each, total-add (λ k. 1 - hit after k) (λ k. times k ks) n, length-total ks n (no-more n ports all), length-onto ks js)
+        omega (arith, each, total-add (λ k. 1 - hit after k) (λ k. times k ks) n, length-total ks n (no-more n ports its-children), length-onto ks js)
 
   -- a row that is reached twice is in no cabling
   pub no-cabling : (k : ℕ) → k < length rows → 2 ≤ hit reached k + times k (children ports) → (c : Cabling) → Describes rows c → ⊥

@@ -4,8 +4,8 @@ use native.Mathlib.Omega.{arith}
 use lib.ListN.{length}
 use Rattle.std.proofs.shelf.Results.{err-from-errBy}
 use Rattle.stack.specs.Held.{held}
-use Rattle.announce.proofs.Told.{no-row, children-here}
-use Rattle.announce.proofs.Waits.{begun, next-small, taken-off, put-on, falls, no-cabling, ended}
+use Rattle.announce.proofs.Told.{no-row}
+use Rattle.announce.proofs.Waits.{begun, next-small, taken-off, its-children, put-on, falls, no-cabling, ended}
 use Rattle.announce.proofs.tree.reach_all.Needs as need
 
 pub loop-next-holds : need.loop-next-holds
@@ -22,31 +22,25 @@ pub reach-children-requires : need.reach-children-requires
 reach-children-requires c κs =
     let rows = c .args .rows .now in
     let order = c .pre .rows-are-well-formed in
+    let reached = c .loop-next .reached in
     let w = rw (c .in-Some .ensures tt .takes-the-top-if-any) at (c .loop-next .inv .2) in
-    let small = next-small (length rows) (c .in-Some .next) (held (c .pop .last .self)) (c .loop-next .reached) (w .once) in
     record {
-      children-are-rows = children-here rows (c .in-Some .next) no-row (order .in-range) small;
+      children-are-rows = its-children rows (c .in-Some .next) no-row (held (c .pop .last .self)) reached reached order w;
       rows-fit = (order .few, omega (arith, c .in-Some .ensures tt .keeps-the-room, c .loop-next .inv .1, c .in-Ok .ensures tt .keeps-the-room, c .new-stack .ensures .has-the-room-of-the-row));
-      each-waits-once = taken-off rows (c .in-Some .next) no-row (held (c .pop .last .self)) (c .loop-next .reached) (c .loop-next .reached) order w;
+      each-waits-once = taken-off rows (c .in-Some .next) no-row (held (c .pop .last .self)) reached reached order w;
     }
 
 pub loop-next-less : need.loop-next-less
 loop-next-less c =
-    let rows = c .args .rows .now in
-    let order = c .pre .rows-are-well-formed in
     let top = c .in-Some .ensures tt .takes-the-top-if-any in
     let w = rw top at (c .loop-next .inv .2) in
-    let small = next-small (length rows) (c .in-Some .next) (held (c .pop .last .self)) (c .loop-next .reached) (w .once) in
-    let less = falls rows (c .in-Some .next) no-row (held (c .pop .last .self)) (c .loop-next .reached) (c .reach-children .last .reached) order w (children-here rows (c .in-Some .next) no-row (order .in-range) small) (c .in-Continue-reach-children .ensures tt .children-are-reached) in
+    let less = falls (c .args .rows .now) (c .in-Some .next) no-row (held (c .pop .last .self)) (c .loop-next .reached) (c .reach-children .last .reached) (c .pre .rows-are-well-formed) w (c .in-Continue-reach-children .ensures tt .children-are-reached) in
     rw (c .in-Continue-reach-children .ensures tt .children-wait, top) less
 
 pub loop-next-again : need.loop-next-again
 loop-next-again c =
-    let rows = c .args .rows .now in
-    let order = c .pre .rows-are-well-formed in
     let w = rw (c .in-Some .ensures tt .takes-the-top-if-any) at (c .loop-next .inv .2) in
-    let small = next-small (length rows) (c .in-Some .next) (held (c .pop .last .self)) (c .loop-next .reached) (w .once) in
-    let more = put-on rows (c .in-Some .next) no-row (held (c .pop .last .self)) (c .loop-next .reached) (c .reach-children .last .reached) order w (children-here rows (c .in-Some .next) no-row (order .in-range) small) (c .in-Continue-reach-children .ensures tt .children-are-reached) in (
+    let more = put-on (c .args .rows .now) (c .in-Some .next) no-row (held (c .pop .last .self)) (c .loop-next .reached) (c .reach-children .last .reached) (c .pre .rows-are-well-formed) w (c .in-Continue-reach-children .ensures tt .children-are-reached) in (
       omega arith,
       c .in-Continue-reach-children .ensures tt .keeps-the-room ∙ c .in-Some .ensures tt .keeps-the-room ∙ c .loop-next .inv .1,
       rw (c .in-Continue-reach-children .ensures tt .children-wait) more,
