@@ -1,5 +1,7 @@
 //! Announcing a description: the quadlets that a bench with these nodes and cables sends after a bus reset.
 
+#![tactic(auto)]
+
 pub mod described;
 pub mod frame;
 mod node;

@@ -1,6 +1,8 @@
 //! Describes a few benches, announces each, and prints what goes out on the bus as a trace:
 //! a note with the bench's name, the line `reset`, then a packet and its inverse to a line.
 
+#![tactic(auto)]
+
 ghost use Rattle.benchtrace.specs.Benches.{HubAnnounces, ThreeCamerasAnnounce};
 
 use announce::announce;

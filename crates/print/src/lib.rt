@@ -1,5 +1,7 @@
 //! The lines of the print, written to the front of a caller's buffer.
 
+#![tactic(auto)]
+
 mod line;
 mod lines;
 mod node;

@@ -1,5 +1,7 @@
 //! Where the quadlets of an announcement come from: a finite row of quadlets that wait, and how it ends.
 
+#![tactic(auto)]
+
 pub mod receive;
 
 ghost use Rattle.std.specs.Prelude.{◌≡◌, ℕ, List, drop};

@@ -1,5 +1,7 @@
 //! A stack over a lent slice, for elements of any kind.
 
+#![tactic(auto)]
+
 ghost use Rattle.std.specs.Prelude.{◌≤◌, length};
 
 pub mod calls;

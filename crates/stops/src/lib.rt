@@ -1,5 +1,7 @@
 //! What the calls of a survey answer where they refuse: each stop has a number, and some a place.
 
+#![tactic(auto)]
+
 ghost use Rattle.std.specs.Prelude.{◌≡◌};
 ghost use Rattle.stops.specs.Numbers.{quadlet_number, quadlet_place, cause_number, cause_place, question_number, fill_number, fill_place, fill_count, fill_layer};
 

@@ -1,5 +1,7 @@
 //! The survey of a bus: quadlets are gathered one by one, each judged as it comes; settled, the record answers for the tree.
 
+#![tactic(auto)]
+
 pub mod gathering;
 mod joining;
 mod marks;

@@ -1,5 +1,7 @@
 //! Offers worked examples to a survey and prints what it sees of each, with the numbers and places of what it turns away.
 
+#![tactic(auto)]
+
 use examples::print_examples;
 use leaves::print_leaves;
 use received::print_received;

@@ -4,6 +4,8 @@
 //! that begins with `#` is a note. Any other line has to be words with one space between, each of eight hexadecimal digits.
 //! A line of more than 255 bytes, without its byte 10, is too long whatever it holds.
 
+#![tactic(auto)]
+
 mod lines;
 pub mod reader;
 pub mod recorded;

@@ -1,6 +1,8 @@
 //! Reads a trace from standard input, and prints what each reset in it announces: a line for the bus and one for each node,
 //! or one line that says why there is no bus, and another if the trace could not be read.
 
+#![tactic(auto)]
+
 ghost use Rattle.std.specs.Prelude.{◌≤◌, length, IfOk};
 
 use printing::{print_input_stop, print_trace};

@@ -7,25 +7,25 @@ use Rattle.announce.specs.Announcing.{Outcome, written, no_room, no_tree}
 use Rattle.announce.proofs.Trees.{describe_one_cabling}
 use Rattle.announce.proofs.announce.Goals as goal
 
-pub returns-in-err-check_rows : goal.returns-in-err-check_rows
-returns-in-err-check_rows c =
+pub returns-in_err-check_rows : goal.returns-in_err-check_rows
+returns-in_err-check_rows c =
     let words = c.args.words.now in
-    let p = err_from_is_err_and c.from-residual.result c.from-residual.ensures.1 in
-    let first = c.in-err-check_rows.ensures.is_the_first_that_applies in
+    let p = err_from_is_err_and c.from_residual.result c.from_residual.ensures.1 in
+    let first = c.in_err-check_rows.ensures.is_the_first_that_applies in
     record {
-      announces_what_the_rows_describe = subst (λ o. Outcome o c.args.rows.now words c.from-residual.result words) (sym first) (p.1 ∙ ap Err p.2, refl);
+      announces_what_the_rows_describe = subst (λ o. Outcome o c.args.rows.now words c.from_residual.result words) (sym first) (p.1 ∙ ap Err p.2, refl);
       answers_a_length_that_fits = rw p.1 tt;
       rows_describe_one_cabling = describe_one_cabling;
       announcement_tells_the_cabling = announcement_tells_the_cabling;
     }
 
-pub returns-in-err-check_tree : goal.returns-in-err-check_tree
-returns-in-err-check_tree c =
+pub returns-in_err-check_tree : goal.returns-in_err-check_tree
+returns-in_err-check_tree c =
     let words = c.args.words.now in
-    let r = c.from-residual-in-err-check_tree.result in
-    let p = err_from_is_err_and r c.from-residual-in-err-check_tree.ensures.1 in
-    let first = c.in-ok-check_rows.ensures.is_the_first_that_applies in
-    let (stop, none) = c.in-err-check_tree.ensures.refuses_what_describes_none in
+    let r = c.from_residual-in_err-check_tree.result in
+    let p = err_from_is_err_and r c.from_residual-in_err-check_tree.ensures.1 in
+    let first = c.in_ok-check_rows.ensures.is_the_first_that_applies in
+    let (stop, none) = c.in_err-check_tree.ensures.refuses_what_describes_none in
     record {
       announces_what_the_rows_describe = subst (λ o. Outcome o c.args.rows.now words r words) (sym first) (no_tree (record { none = none; answers = p.1 ∙ ap Err (p.2 ∙ stop); leaves = refl }));
       answers_a_length_that_fits = rw p.1 tt;
@@ -36,8 +36,8 @@ returns-in-err-check_tree c =
 pub returns-then-words-words_needed : goal.returns-then-words-words_needed
 returns-then-words-words_needed c =
     let words = c.args.words.now in
-    let first = c.in-ok-check_rows.ensures.is_the_first_that_applies in
-    let known = c.in-ok-check_tree.ensures.passes_what_describes_a_proper_cabling in
+    let first = c.in_ok-check_rows.ensures.is_the_first_that_applies in
+    let known = c.in_ok-check_tree.ensures.passes_what_describes_a_proper_cabling in
     let long = c.words_needed.ensures.is_the_length_of_what_they_announce known.cabling known.describes in
     record {
       announces_what_the_rows_describe =
@@ -51,8 +51,8 @@ returns-then-words-words_needed c =
 pub returns : goal.returns
 returns c =
     let words = c.args.words.now in
-    let first = c.in-ok-check_rows.ensures.is_the_first_that_applies in
-    let known = c.in-ok-check_tree.ensures.passes_what_describes_a_proper_cabling in
+    let first = c.in_ok-check_rows.ensures.is_the_first_that_applies in
+    let known = c.in_ok-check_tree.ensures.passes_what_describes_a_proper_cabling in
     let long = c.words_needed.ensures.is_the_length_of_what_they_announce known.cabling known.describes in
     let row = c.write_all.ensures.writes_it_and_keeps_the_rest known.cabling known.describes in
     record {

@@ -5,9 +5,9 @@ use Rattle.selfid.specs.declared.mark.Mark.TheVariants.{Absent}
 use Rattle.announce.proofs.Putting.{absent_first, present_first}
 use Rattle.announce.proofs.node.present_from.Goals as goal
 
-pub returns-in-default : goal.returns-in-default
-returns-in-default c =
-    record { tells_if_one_is = sym (at_drop_more present c.args.marks.now c.loop-port.port Absent (omega arith) ∙ present_first _ _ c.in-default.not-Absent) ∙ c.loop-port.invariant }
+pub returns-in_default : goal.returns-in_default
+returns-in_default c =
+    record { tells_if_one_is = sym (at_drop_more present c.args.marks.now c.loop-port.port Absent (omega arith) ∙ present_first _ _ c.in_default.not-Absent) ∙ c.loop-port.invariant }
 
 pub loop-port-preserved : goal.loop-port-preserved
 loop-port-preserved c = sym (at_drop_more present c.args.marks.now c.loop-port.port Absent (omega arith) ∙ absent_first _ _ c.in-Absent.is) ∙ c.loop-port.invariant

@@ -4,7 +4,7 @@ use Rattle.announce.specs.declared.described.RowPort.{RowPort}
 use Rattle.announce.specs.Description.{is_up}
 use Rattle.announce.specs.Reach.{ups_of}
 use Rattle.announce.proofs.tree.count_ups.Goals as goal
-use Rattle.announce.proofs.tree.count_ups.Goals.{then_is_up, else_is_up}
+use Rattle.announce.proofs.tree.count_ups.Goals.{then-is_up, else-is_up}
 
 abbrev no_port : RowPort
 no_port = record { mark = 0; child = 0 }
@@ -17,8 +17,8 @@ loop-port-preserved c =
     let more : ups_of (drop i ports) ≡ cond (is_up p) 1 0 + ups_of (drop (i + 1) ports) = at_drop_more ups_of ports i no_port c.loop-port-test.true in
     let one : ℕ = cond (is_up p) 1 0 in
     elim c.if-is_up.branch [
-      | then_is_up w ↦ let e : one ≡ 1 = ap (λ b. cond b 1 0) (sym w.if-is_up.ensures.tells_if_it_is) in omega (arith, w.count-is, more)
-      | else_is_up w ↦ let e : one ≡ 0 = ap (λ b. cond b 1 0) (sym w.if-is_up.ensures.tells_if_it_is) in omega (arith, w.count-is, more)
+      | then-is_up w ↦ let e : one ≡ 1 = ap (λ b. cond b 1 0) (sym w.if-is_up.ensures.tells_if_it_is) in omega (arith, w.count-is, more)
+      | else-is_up w ↦ let e : one ≡ 0 = ap (λ b. cond b 1 0) (sym w.if-is_up.ensures.tells_if_it_is) in omega (arith, w.count-is, more)
     ]
 
 pub returns : goal.returns

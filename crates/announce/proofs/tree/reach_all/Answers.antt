@@ -31,25 +31,25 @@ pub loop-next-smaller : goal.loop-next-smaller
 loop-next-smaller c =
     let top = c.in-Some.ensures.takes_the_top_if_any in
     let w = rw top at c.loop-next.invariant.2 in
-    let less = falls c.args.rows.now c.in-Some.next no_row (held c.pop.new.self) c.loop-next.reached c.reach_children.new.reached c.requires.rows_are_well_formed w c.in-ok-reach_children.ensures.children_are_reached in
-    rw (c.in-ok-reach_children.ensures.children_wait, top) less
+    let less = falls c.args.rows.now c.in-Some.next no_row (held c.pop.new.self) c.loop-next.reached c.reach_children.new.reached c.requires.rows_are_well_formed w c.in_ok-reach_children.ensures.children_are_reached in
+    rw (c.in_ok-reach_children.ensures.children_wait, top) less
 
 pub loop-next-preserved : goal.loop-next-preserved
 loop-next-preserved c =
     let w = rw c.in-Some.ensures.takes_the_top_if_any at c.loop-next.invariant.2 in
-    let more = put_on c.args.rows.now c.in-Some.next no_row (held c.pop.new.self) c.loop-next.reached c.reach_children.new.reached c.requires.rows_are_well_formed w c.in-ok-reach_children.ensures.children_are_reached in (
+    let more = put_on c.args.rows.now c.in-Some.next no_row (held c.pop.new.self) c.loop-next.reached c.reach_children.new.reached c.requires.rows_are_well_formed w c.in_ok-reach_children.ensures.children_are_reached in (
       omega arith,
-      c.in-ok-reach_children.ensures.keeps_the_room ∙ c.in-Some.ensures.keeps_the_room ∙ c.loop-next.invariant.1,
-      rw c.in-ok-reach_children.ensures.children_wait more,
+      c.in_ok-reach_children.ensures.keeps_the_room ∙ c.in-Some.ensures.keeps_the_room ∙ c.loop-next.invariant.1,
+      rw c.in_ok-reach_children.ensures.children_wait more,
     )
 
-pub returns-in-err-reach_children : goal.returns-in-err-reach_children
-returns-in-err-reach_children c =
+pub returns-in_err-reach_children : goal.returns-in_err-reach_children
+returns-in_err-reach_children c =
     let rows = c.args.rows.now in
     let order = c.requires.rows_are_well_formed in
     let w = rw c.in-Some.ensures.takes_the_top_if_any at c.loop-next.invariant.2 in
-    let p = err_from_is_err_and c.from-residual.result c.from-residual.ensures.1 in
-    let (stop, (k, l, two)) = c.in-err-reach_children.ensures.refuses_a_row_reached_twice in
+    let p = err_from_is_err_and c.from_residual.result c.from_residual.ensures.1 in
+    let (stop, (k, l, two)) = c.in_err-reach_children.ensures.refuses_a_row_reached_twice in
     rw p.1
     (record {
       each_is_reached_once = tt;
@@ -57,4 +57,4 @@ returns-in-err-reach_children c =
     })
 
 pub returns : goal.returns
-returns c = record { each_is_reached_once = ended c.args.rows.now c.loop-next.reached (rw c.in-default-pop.ensures.takes_the_top_if_any.0 at c.loop-next.invariant.2); refuses_what_describes_no_cabling = tt }
+returns c = record { each_is_reached_once = ended c.args.rows.now c.loop-next.reached (rw c.in_default-pop.ensures.takes_the_top_if_any.0 at c.loop-next.invariant.2); refuses_what_describes_no_cabling = tt }

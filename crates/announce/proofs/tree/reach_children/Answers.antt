@@ -48,7 +48,7 @@ unreachable-requires c =
     let h = rw (drop_more ports i no_port c.loop-port-test.true) at c.loop-port.invariant.2 in
     let small = child_small c.args.rows ports i _ c.requires.children_are_rows c.loop-port-test.true (sym c.if-not-is_down.ensures.tells_if_it_is) in
     let space = has_room _ _ _ _ _ _ _ _ h (sym c.if-not-is_down.ensures.tells_if_it_is) small (ap bit c.if-reached-child.false) (omega (arith, c.loop-port.invariant.0, c.requires.rows_fit.0)) in
-    omega (arith, space, c.in-default.ensures.refuses_only_when_full, c.loop-port.invariant.1, c.requires.rows_fit.1)
+    omega (arith, space, c.in_default.ensures.refuses_only_when_full, c.loop-port.invariant.1, c.requires.rows_fit.1)
 
 pub loop-port-preserved : goal.loop-port-preserved
 unfolding no_port

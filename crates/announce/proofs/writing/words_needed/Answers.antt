@@ -9,11 +9,11 @@ use Rattle.announce.proofs.writing.words_needed.Goals as goal
 pub node_of-requires : goal.node_of-requires
 node_of-requires c = record { is_in_range = every_at (row_in_range (length c.args.rows.now)) c.args.rows.now c.loop-row.row-index no_row c.requires.rows_are_well_formed.in_range c.loop-row-test.true }
 
-pub overflow-mul-needed : goal.overflow-mul-needed
-overflow-mul-needed c = search rules
+pub overflow_mul-needed : goal.overflow_mul-needed
+overflow_mul-needed c = search rules
 
-pub overflow-add-needed : goal.overflow-add-needed
-overflow-add-needed c = omega (arith, c.count_packets.ensures.at_most_three, c.loop-row.invariant.1, c.requires.rows_are_well_formed.few)
+pub overflow_add-needed : goal.overflow_add-needed
+overflow_add-needed c = omega (arith, c.count_packets.ensures.at_most_three, c.loop-row.invariant.1, c.requires.rows_are_well_formed.few)
 
 pub loop-row-preserved : goal.loop-row-preserved
 loop-row-preserved c =

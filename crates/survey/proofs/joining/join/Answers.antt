@@ -2,7 +2,7 @@ use Rattle.std.proofs.Common.{refl, arith}
 use Rattle.survey.specs.Nodes.{end_at}
 use Rattle.survey.proofs.Joins.{within_at, end_is_due, joins_child, passes_port, all_rows_joined, all_ports_joined}
 use Rattle.survey.proofs.joining.join.Goals as goal
-use Rattle.survey.proofs.joining.join.Goals.{in-Down, in-default}
+use Rattle.survey.proofs.joining.join.Goals.{in-Down, in_default}
 
 pub next_child-child-requires : goal.next_child-child-requires
 next_child-child-requires c = record { there_is_one = end_is_due c.loop-port.invariant c.requires.all_marks_are_there c.loop-port-test.true c.in-Down.is }
@@ -17,7 +17,7 @@ pub loop-port-preserved : goal.loop-port-preserved
 loop-port-preserved c =
     elim c.match-mark.branch [
       | in-Down w ↦ rw (w.rows-is, w.next-is, w.far-is, w.lead.ensures.leads_there, w.next_child-child.ensures.is_that_end, w.in-Down.is) (joins_child c.loop-port.invariant c.requires.all_marks_are_there c.loop-port-test.true (end_at 0 0) w.in-Down.is)
-      | in-default w ↦ rw (w.rows-is, w.next-is, w.far-is) (passes_port c.loop-port.invariant c.requires.all_marks_are_there c.loop-port-test.true _ refl w.in-default.not-Down)
+      | in_default w ↦ rw (w.rows-is, w.next-is, w.far-is) (passes_port c.loop-port.invariant c.requires.all_marks_are_there c.loop-port-test.true _ refl w.in_default.not-Down)
     ]
 
 pub returns : goal.returns

@@ -8,7 +8,7 @@ pub returns-in-Up : goal.returns-in-Up
 returns-in-Up c = record { is_its_place = sym (place_here c.loop-port.port c.args.marks.now c.loop-port.port (omega arith) c.in-Up.is) ∙ c.loop-port.invariant }
 
 pub loop-port-preserved : goal.loop-port-preserved
-loop-port-preserved c = sym (place_later c.args.marks.now c.loop-port.port (omega arith) c.in-default.not-Up) ∙ c.loop-port.invariant
+loop-port-preserved c = sym (place_later c.args.marks.now c.loop-port.port (omega arith) c.in_default.not-Up) ∙ c.loop-port.invariant
 
 pub returns : goal.returns
 returns c =

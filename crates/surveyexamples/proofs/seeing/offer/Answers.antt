@@ -10,7 +10,7 @@ returns-in-Err c =
     record { offers_them_in_order = λ s k. next _ c.args.quadlets.now c.loop-i.i s c.loop-i-test.true (c.loop-i.invariant s k) (Err c.in-Err.stop) (gathered c.quadlet.new.self) c.in-Err.ensures.takes_it_or_turns_it_away }
 
 pub loop-i-preserved : goal.loop-i-preserved
-loop-i-preserved c s k = next _ c.args.quadlets.now c.loop-i.i s c.loop-i-test.true (c.loop-i.invariant s k) (Ok tt) (gathered c.quadlet.new.self) c.in-default.ensures.takes_it_or_turns_it_away
+loop-i-preserved c s k = next _ c.args.quadlets.now c.loop-i.i s c.loop-i-test.true (c.loop-i.invariant s k) (Ok tt) (gathered c.quadlet.new.self) c.in_default.ensures.takes_it_or_turns_it_away
 
 pub returns : goal.returns
 returns c =

@@ -4,8 +4,8 @@ use Rattle.trace.specs.Lines.{words_left, are_words_left}
 use Rattle.trace.proofs.Firsts.{first_word}
 use Rattle.trace.proofs.lines.cut_word.Goals as goal
 
-pub slice-bounds-read_word-end : goal.slice-bounds-read_word-end
-slice-bounds-read_word-end c = sym (length-take-le 8 c.args.line.now (first_word c.args.line.now c.requires.is_a_words_line).there)
+pub slice_bounds-read_word-end : goal.slice_bounds-read_word-end
+slice_bounds-read_word-end c = sym (length-take-le 8 c.args.line.now (first_word c.args.line.now c.requires.is_a_words_line).there)
 
 pub read_word-word-requires : goal.read_word-word-requires
 read_word-word-requires c = record { are_eight_digits = (first_word c.args.line.now c.requires.is_a_words_line).word }

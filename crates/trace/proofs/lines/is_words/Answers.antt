@@ -3,7 +3,7 @@ use Rattle.std.proofs.lemmas.List.{at_drop_all}
 use Rattle.std.proofs.lemmas.Bool.{eq-eqb, ne_eqb}
 use Rattle.trace.proofs.Pieces.{goes_on, goes_on_is, on_space, on_other}
 use Rattle.trace.proofs.lines.is_words.Goals as goal
-use Rattle.trace.proofs.lines.is_words.Goals.{in-32+else-digits-ne8, in-default+else-is_none}
+use Rattle.trace.proofs.lines.is_words.Goals.{in-32+else-digits-ne8, in_default+else-is_none}
 
 pub loop-byte-init : goal.loop-byte-init
 loop-byte-init c = (goes_on_is c.args.line.now, omega arith)
@@ -22,7 +22,7 @@ loop-byte-preserved c = elim c.match-byte.branch [
     rw w.digits-is (sym (on_space c.loop-byte.digits c.args.line.now c.loop-byte.byte-index c.loop-byte-test.true w.in-32.is _ (eq-eqb _ _ w.if-digits-ne8.false)) ∙ c.loop-byte.invariant.0),
     omega (arith, w.digits-is),
   )
-  | in-default+else-is_none w ↦ (
+  | in_default+else-is_none w ↦ (
     rw w.digits-is (sym (on_other c.loop-byte.digits c.args.line.now c.loop-byte.byte-index c.loop-byte-test.true (search rules) _ (sym (ap is_some w.digit_value.ensures.is_the_value_of_a_digit) ∙ w.if-is_none.ensures)) ∙ c.loop-byte.invariant.0),
     omega (arith, w.digits-is, c.loop-byte.invariant.1),
   )

@@ -8,14 +8,14 @@ use Rattle.trace.proofs.lines.read_word.Goals as goal
 pub loop-byte-init : goal.loop-byte-init
 loop-byte-init c = (refl, (and_parts (eqb (length c.args.digits.now) 8) (every is_digit c.args.digits.now) c.requires.are_eight_digits).1, omega arith)
 
-pub overflow-mul-value : goal.overflow-mul-value
-overflow-mul-value c =
+pub overflow_mul-value : goal.overflow_mul-value
+overflow_mul-value c =
     let n = eqb-true (length c.args.digits.now) 8 (and_parts _ (every is_digit c.args.digits.now) c.requires.are_eight_digits).0 in
     let r = room_left c.loop-byte.value c.loop-byte.byte-index (omega (arith, n, c.loop-byte-test.true)) c.loop-byte.invariant.2 in
     omega arith
 
-pub overflow-add-value : goal.overflow-add-value
-overflow-add-value c =
+pub overflow_add-value : goal.overflow_add-value
+overflow_add-value c =
     let n = eqb-true (length c.args.digits.now) 8 (and_parts _ (every is_digit c.args.digits.now) c.requires.are_eight_digits).0 in
     let r = room_left c.loop-byte.value c.loop-byte.byte-index (omega (arith, n, c.loop-byte-test.true)) c.loop-byte.invariant.2 in
     omega (arith, c.in-Some.ensures.is_below_16)

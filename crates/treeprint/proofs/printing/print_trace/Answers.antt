@@ -15,4 +15,4 @@ pub loop-reader-preserved : goal.loop-reader-preserved
 loop-reader-preserved g c =
     let e = c.loop-reader-test.ensures in
     let fewer = fewer_left (lines_left c.loop-reader.reader) (lines_left c.pass_to_reset.new.self) e.tells_if_there_was_one e.leaves_the_lines_behind_it in
-    (omega (arith, fewer, c.loop-reader.invariant.0), c.in-ok-gathering.ensures.gives_back_an_empty_gathering)
+    (omega (arith, fewer, c.loop-reader.invariant.0), c.in_ok-gathering.ensures.gives_back_an_empty_gathering)

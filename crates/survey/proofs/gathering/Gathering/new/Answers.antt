@@ -2,5 +2,5 @@ use Rattle.std.proofs.Common.{[]}
 use Rattle.survey.proofs.Settling.{fresh_facts}
 use Rattle.survey.proofs.gathering.Gathering.new.Goals as goal
 
-pub invariant-of-result : goal.invariant-of-result
-invariant-of-result c = fresh_facts [] c.new.result c.new.ensures.has_heard_nothing
+pub invariant_of-result : goal.invariant_of-result
+invariant_of-result c = fresh_facts [] c.new.result c.new.ensures.has_heard_nothing

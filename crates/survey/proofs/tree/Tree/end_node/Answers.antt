@@ -8,8 +8,8 @@ use Rattle.survey.proofs.Ending.{newest_within, place_among}
 use Rattle.survey.proofs.tree.Tree.end_node.Goals as goal
 use Rattle.survey.proofs.tree.Tree.end_node.Goals.{then-rooted, else-rooted}
 
-pub overflow-sub-first : goal.overflow-sub-first
-overflow-sub-first c = omega (arith, c.count.ensures.is_how_often_it_comes, downs_counted c.args.self.now.marks, c.requires.it_can_end.2)
+pub overflow_sub-first : goal.overflow_sub-first
+overflow_sub-first c = omega (arith, c.count.ensures.is_how_often_it_comes, downs_counted c.args.self.now.marks, c.requires.it_can_end.2)
 
 pub join_newest-ports-requires : goal.join_newest-ports-requires
 join_newest-ports-requires c =
@@ -24,8 +24,8 @@ join_newest-ports-requires c =
       ends_are_ports_of_nodes = newest_within t.finished (length t.rows) _ t.loose t.ends (omega (arith, can.0)) (omega arith) can.5;
     }
 
-pub overflow-cast-self-else-rooted : goal.overflow-cast-self-else-rooted
-overflow-cast-self-else-rooted c =
+pub overflow_cast-self-else-rooted : goal.overflow_cast-self-else-rooted
+overflow_cast-self-else-rooted c =
     let ms = take 16 c.args.self.now.marks in
     let e : c.lowest_up-up.result ≡ up_place 0 ms = c.lowest_up-up.ensures.is_its_place in
     record { fits = omega (arith, e, place_among 0 ms, length-take 16 c.args.self.now.marks) }
