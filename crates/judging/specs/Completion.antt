@@ -1,5 +1,5 @@
 -- When an announcement can still be completed.
-use Rattle.std.specs.Prelude.{◌≡◌, ℕ, ◌+◌, ◌-◌, ◌*◌, ◌≤◌, min, Bool, true, false, cond, ◌&&◌, ◌||◌, ◌↔◌, List, [], ◌∷◌, ◌++◌, length, None, ◌==◌, nat_le, nat_lt}
+use Rattle.std.specs.Prelude.{◌≡◌, ℕ, ◌+◌, ◌-◌, ◌*◌, min, Bool, true, false, cond, ◌&&◌, ◌||◌, ◌↔◌, List, [], ◌∷◌, ◌++◌, length, None, ◌==◌, nat_le, nat_lt}
 use Rattle.selfid.specs.Marks.{ups, downs}
 use Rattle.selfid.specs.Packets.{with_inverses}
 use Rattle.selfid.specs.Nodes.{port_limit}

@@ -47,7 +47,7 @@ pub(crate) fn is_note(line: &[u8]) -> bool
 pub(crate) fn is_reset(line: &[u8]) -> bool
     ensures tells_if_it_is { result ≡ is_reset_line line.now }
 {
-    line == b"reset"
+    line == b"reset".as_slice()
 }
 
 // Is the line words of eight digits with one space between?
