@@ -18,7 +18,7 @@ reset_example : reset_line 1 3 ≡ codes "reset 1 nodes 3" ++ line_feed
 unfolding digits
 reset_example = refl
 
-node_example : node_line 0 fields (Up ∷ replicate 15 Absent) ≡ codes "node 0 S200 gap 63 power 4 L-- u..............." ++ line-feed
+node_example : node_line 0 fields (Up ∷ replicate 15 Absent) ≡ codes "node 0 S200 gap 63 power 4 L-- u..............." ++ line_feed
 unfolding digits
 node_example = refl
 
@@ -37,7 +37,7 @@ input_stop_example = refl
 abbrev lone : Shown
 lone = bus (row_with fields (port_with Open None ∷ replicate 15 (port_with Absent None)) ∷ [])
 
-bus_example : print_lines 5 lone ≡ (codes "reset 5 nodes 1" ++ line_feed) ∷ (codes "node 0 S200 gap 63 power 4 L-- o..............." ++ line-feed) ∷ []
+bus_example : print_lines 5 lone ≡ (codes "reset 5 nodes 1" ++ line_feed) ∷ (codes "node 0 S200 gap 63 power 4 L-- o..............." ++ line_feed) ∷ []
 unfolding digits
 bus_example = refl
 

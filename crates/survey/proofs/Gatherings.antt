@@ -57,10 +57,32 @@ module _ (g : Gathering) where
 abbrev pub Facts : List ℕ → (count : ℕ) → Tree → Type 0
 Facts quadlets count t =
     let ps = packets_taken (take count quadlets) in
-    (count ≤ quadlet_limit) × (Begins (take count quadlets) × (HasRoom t × (CountsTally ps t × (TurnTallies ps t × (MarksTally ps t × (FieldsTally ps t × (RowsTally ps t × (EndsTally ps t × Unit {0}))))))))
+    record {
+      count_in_range : count ≤ quadlet_limit;
+      begins : Begins (take count quadlets);
+      has_room : HasRoom t;
+      counts_tally : CountsTally ps t;
+      turn_tallies : TurnTallies ps t;
+      marks_tally : MarksTally ps t;
+      fields_tally : FieldsTally ps t;
+      rows_tally : RowsTally ps t;
+      ends_tally : EndsTally ps t;
+    }
 
 pub facts_from : (quadlets qs : List ℕ) (count : ℕ) (t : Tree) → count ≤ quadlet_limit → take count quadlets ≡ qs → Begins qs → Tally (packets_taken qs) t → Facts quadlets count t
-facts_from quadlets qs count t few e b k = (few, rw e (b, ((k.rows_long, k.ends_long), (k.counts, (k.turn, (k.marks, (k.fields, (k.rows, (k.ends, tt)))))))))
+facts_from quadlets qs count t few e b k =
+    rw e
+    (record {
+      count_in_range = few;
+      begins = b;
+      has_room = (k.rows_long, k.ends_long);
+      counts_tally = k.counts;
+      turn_tallies = k.turn;
+      marks_tally = k.marks;
+      fields_tally = k.fields;
+      rows_tally = k.rows;
+      ends_tally = k.ends;
+    })
 
 -- The quadlet that is taken.
 module _ (g : Gathering) (q : ℕ) (l : length g.quadlets ≡ quadlet_limit) (passes : Verdict (quadlets_of g) q None) where

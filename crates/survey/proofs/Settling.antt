@@ -40,7 +40,17 @@ nothing_begins = ∣ (lone, record { behind = announcement lone; announces = rec
 
 pub fresh_facts : (quadlets : List ℕ) (t : Tree) → Fresh t → Facts quadlets 0 t
 fresh_facts quadlets t (f, l, r, k, m, room) =
-    (omega arith, (nothing_begins, (room, ((f, l, k, r, λ _. k), ((omega (arith, k), rw k refl), (marks, ((λ h. absurd (omega (arith, h, k))), (rows, ((λ _. (ends, refl)), tt)))))))))
+    record {
+      count_in_range = omega arith;
+      begins = nothing_begins;
+      has_room = room;
+      counts_tally = (f, l, k, r, λ _. k);
+      turn_tallies = (omega (arith, k), rw k refl);
+      marks_tally = marks;
+      fields_tally = λ h. absurd (omega (arith, h, k));
+      rows_tally = rows;
+      ends_tally = λ _. (ends, refl);
+    }
   where
     marks : t ≡ tree_with t.rows t.ends t.fields (replicate (told_limit - marks_before t.turn) Absent) t
     marks = ap (λ ms. tree_with t.rows t.ends t.fields ms t) (m ∙ ap (λ (n : ℕ). replicate (told_limit - marks_before n) Absent) (sym k))

@@ -10,7 +10,7 @@ use stops::{FillStop, QuadletStop};
 impl Gathering {
     // Draws and offers quadlets until none waits, the source stops, or one is turned away. Answers the count taken. A spoiled gathering draws nothing.
     pub fn fill<S: Source>(&mut self, source: &mut S) -> Result<usize, FillStop>
-        ensures offers_what_it_draws_and_counts_what_it_takes { FillCall (gathered self.old) (waiting source.old) (ending source.old) result (waiting source.new) (ending source.new) (gathered self.new) }
+        ensures offers_what_it_draws_and_counts_what_it_takes { FillCall (gathered self.old) (S.waiting source.old) (S.ending source.old) result (S.waiting source.new) (S.ending source.new) (gathered self.new) }
     {
         if let Some(spoil) = self.spoil {
             return Err(FillStop::Survey(0, QuadletStop::Spoiled(spoil.place)));
