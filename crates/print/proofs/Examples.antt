@@ -1,5 +1,5 @@
 -- The definitions of the lines, tried on examples.
-use Rattle.std.proofs.Common.{◌≡◌, true, false, [], ◌∷◌, ◌++◌, replicate, None, Ok, Err, codes, refl, arith}
+use Rattle.std.proofs.Common.{◌≡◌, true, false, [], ◌∷◌, ◌++◌, replicate, None, Err, codes, refl, arith}
 use Rattle.std.specs.Fmt.{digits}
 use Rattle.selfid.specs.declared.mark.Mark.TheVariants.{Absent, Open, Up}
 use Rattle.selfid.specs.declared.node.Fields.{Fields}

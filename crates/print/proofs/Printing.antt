@@ -1,12 +1,10 @@
 -- The lines of the nodes.
-use Rattle.std.proofs.Common.{◌≡◌, ℕ, zero, suc, ◌+◌, ◌-◌, ◌<◌, ◌≤◌, List, [], ◌∷◌, ◌++◌, map, length, get_or, take, set, replicate, Some, None, Ok, Err, Option, Result, sym, refl, ap, ◌∙◌, ap₂, arith, MatchResult}
-use Rattle.std.proofs.lemmas.List.{take_more, take_more_set, take_all, length-take, length-take-le, length-append, length-replicate}
+use Rattle.std.proofs.Common.{◌≡◌, ℕ, zero, suc, ◌+◌, ◌≤◌, List, [], ◌∷◌, length, take, Some, None, Ok, Err, Option, Result, sym, refl, ap, ◌∙◌, arith}
+use Rattle.std.proofs.lemmas.List.{length-take}
 use Rattle.selfid.specs.declared.mark.Mark.{Mark}
-use Rattle.selfid.specs.declared.mark.Mark.TheVariants.{Absent}
 use Rattle.selfid.specs.declared.node.Fields.{Fields}
 use Rattle.stops.specs.declared.Cause.{Cause}
 use Rattle.stops.specs.declared.QuestionStop.{QuestionStop}
-use Rattle.survey.specs.declared.row.Port.{Port}
 use Rattle.survey.specs.declared.row.Row.{Row}
 use Rattle.survey.specs.declared.record.Record.{Record}
 use Rattle.survey.specs.Views.{Shown, bus, void, shown, shown_with}

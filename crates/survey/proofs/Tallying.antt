@@ -8,7 +8,7 @@ use Rattle.selfid.specs.declared.packet.Packet.{Packet}
 use Rattle.selfid.specs.declared.packet.Packet.TheVariants.{Zero, Extension as Further}
 use Rattle.selfid.specs.Marks.{ups, downs}
 use Rattle.selfid.specs.Nodes.{port_limit, extension_limit}
-use Rattle.selfid.specs.Cabling.{node, node_limit}
+use Rattle.selfid.specs.Cabling.{node_limit}
 use Rattle.selfid.specs.Reading.{packet_in, extension_in}
 use Rattle.judging.specs.Standing.{has_more, turn_of, marks_in, under_way, finished_nodes, marks_told, loose_ends, loose_count, node_so_far}
 use Rattle.judging.specs.Rebuilding.{all_marks}

@@ -3,7 +3,6 @@ use Rattle.std.specs.Prelude.{◌≡◌, ℕ, ◌⊎◌, List, length, Some, Non
 use Rattle.stops.specs.declared.Spoil.{Spoil}
 use Rattle.stops.specs.declared.Cause.TheVariants.{SpoiledBy, NotWhole}
 use Rattle.selfid.specs.Cabling.{Cabling, size}
-use Rattle.judging.specs.Standing.{whole}
 use Rattle.judging.specs.Beginnings.{Announces, Begins, Unannounced}
 use Rattle.survey.specs.Nodes.{nodes_of}
 use Rattle.survey.specs.Views.{Gathered, Shown, bus, void}

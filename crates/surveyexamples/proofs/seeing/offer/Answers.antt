@@ -1,4 +1,4 @@
-use Rattle.std.proofs.Common.{drop, Ok, Err, subst, arith}
+use Rattle.std.proofs.Common.{Ok, Err, subst}
 use Rattle.std.proofs.lemmas.List.{drop_all}
 use Rattle.survey.specs.Views.{gathered}
 use Rattle.surveyexamples.specs.Examples.{SeesFrom}
