@@ -7,7 +7,7 @@ use selfid::packet::{EXTENSION_LIMIT, EXTENSION_PORTS, ZERO_PORTS};
 
 mod beginning;
 pub(crate) mod hearing;
-pub(crate) mod judging;
+pub(crate) mod verdict;
 
 // A node's packets have so many marks in all. (Those behind its last port are reserved bits and read as absent.)
 pub(crate) const TOLD_LIMIT: usize = ZERO_PORTS + EXTENSION_PORTS * EXTENSION_LIMIT;

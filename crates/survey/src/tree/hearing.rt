@@ -6,7 +6,7 @@ ghost use Rattle.survey.specs.Hearing.{ended, heard_parts, heard, CanEnd, CanTel
 use crate::joining::join_newest;
 use crate::marks::{count, lowest_up, tell};
 use crate::row::{End, Row};
-use crate::tree::judging::marks_before;
+use crate::tree::verdict::marks_before;
 use crate::tree::{TOLD_LIMIT, Tree};
 use selfid::mark::Mark;
 use selfid::node::PORT_LIMIT;
