@@ -6,7 +6,10 @@
 A name with a dash that is not the library's and not one that Rattle makes is ours. In specs/ and in the lemmas of proofs/ every such name is respelled;
 in the answers and invariants of a function, where most names with a dash are made by Rattle, the names declared by us, and the names of src/ (labels of clauses,
 functions, variables), which keep the spelling that they have there. Clauses of src/ and names in backquotes in README.md and docs/ follow.
-Nothing else is touched: functions of src/, strings, inputs, outputs and must-fail edits keep their names.
+Nothing else is touched: functions of src/, inputs, outputs and must-fail edits keep their names.
+
+It goes by text and was meant for one run. What it does not see: a name that falls together with a variant of src/ or with another import, a name behind two dashes within a string,
+and names in pages that the kit's scripts have respelled before it. docs/PORT.md says where that was mended by hand.
 """
 
 import os

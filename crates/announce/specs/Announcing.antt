@@ -46,7 +46,7 @@ pub record NoRoom (rows : List Row) (before : List ℕ) (a : Result ℕ Descript
   pub leaves : after ≡ before
 
 -- The rows describe no proper cabling, and the words `before` stay.
-pub record NoCabling (rows : List Row) (before : List ℕ) (a : Result ℕ DescriptionStop) (after : List ℕ) : Type 0 where
+pub record DescribesNone (rows : List Row) (before : List ℕ) (a : Result ℕ DescriptionStop) (after : List ℕ) : Type 0 where
   pub none : (c : Cabling) → Describes rows c → Proper c → ⊥
   pub answers : a ≡ Err NoTree
   pub leaves : after ≡ before
@@ -55,7 +55,7 @@ pub record NoCabling (rows : List Row) (before : List ℕ) (a : Result ℕ Descr
 pub data Announced (rows : List Row) (before : List ℕ) (a : Result ℕ DescriptionStop) (after : List ℕ) : Type 0 where
   written : Written rows before a after → Announced rows before a after
   no_room : NoRoom rows before a after → Announced rows before a after
-  no_tree : NoCabling rows before a after → Announced rows before a after
+  no_tree : DescribesNone rows before a after → Announced rows before a after
 
 -- Rows that are refused before their tree is looked at have that stop and leave the words `before` as they are.
 abbrev pub Outcome : Option DescriptionStop → List Row → List ℕ → Result ℕ DescriptionStop → List ℕ → Type 0

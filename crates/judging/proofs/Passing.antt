@@ -5,7 +5,7 @@ use Rattle.std.proofs.lemmas.Bool.{both_ways, cases_eq, cases_Bool, cond-true}
 use Rattle.selfid.specs.declared.mark.Mark.{Mark}
 use Rattle.selfid.specs.declared.packet.Packet.{Packet}
 use Rattle.selfid.specs.declared.packet.PacketFlaw.{PacketFlaw}
-use Rattle.selfid.specs.declared.packet.PacketFlaw.TheVariants.{NotSelfId as NoSelfId, ReservedBit as ReservedBit}
+use Rattle.selfid.specs.declared.packet.PacketFlaw.TheVariants.{NotSelfId as NoSelfId, ReservedBit as HasReservedBit}
 use Rattle.selfid.specs.Marks.{ups, downs, present}
 use Rattle.selfid.specs.Reading.{bits, packet_in}
 use Rattle.judging.specs.declared.flaw.Flaw.{Flaw}
@@ -21,10 +21,10 @@ use Rattle.judging.proofs.Standings.{Stands}
 abbrev pub eight_tests : List Flaw
 eight_tests = NotSelfId ∷ ReservedBit ∷ WrongNumber ∷ OutOfTurn ∷ EmptyExtension ∷ SecondUp ∷ TooManyDown ∷ LooseEndLeft ∷ []
 
-is_read : (r : Result Packet PacketFlaw) → (r ≡ Err NoSelfId → ⊥) → (r ≡ Err ReservedBit → ⊥) → is_ok r ≡ true
+is_read : (r : Result Packet PacketFlaw) → (r ≡ Err NoSelfId → ⊥) → (r ≡ Err HasReservedBit → ⊥) → is_ok r ≡ true
 is_read (Ok p) a b = refl
 is_read (Err NoSelfId) a b = absurd (a refl)
-is_read (Err ReservedBit) a b = absurd (b refl)
+is_read (Err HasReservedBit) a b = absurd (b refl)
 
 not_read : (r : Result Packet PacketFlaw) (f : PacketFlaw) → is_ok r ≡ true → r ≡ Err f → ⊥
 not_read r f k e = let z : false ≡ true = sym (ap is_ok e) ∙ k in let o : ◌≡◌ {A = ℕ} 0 1 = cc in omega arith
@@ -94,7 +94,7 @@ not_applying f l u d t qs q s (packet, number, turn, one, held, k) =
     let turns : (turn_of q ≢ length (under_way (packets_taken qs))) ⊎ ((turn_of q ≡ 2) × (has_more q ≡ true)) → ⊥ = elim [ inl o ↦ o (turn ∙ sym s.4) | inr o ↦ ends_last (has_more q) t (marks_in q) l v e k o.1 (sym turn ∙ o.0) ] in (
       not_read (packet_in q) NoSelfId packet,
       (
-        not_read (packet_in q) ReservedBit packet,
+        not_read (packet_in q) HasReservedBit packet,
         (
           λ o. o (number ∙ sym s.0),
           (

@@ -1,6 +1,6 @@
 -- The tests that can turn a quadlet away, their order, and the verdict.
 use Rattle.std.specs.Prelude.{◌≡◌, ℕ, ◌<◌, ◌≤◌, true, false, cond, ◌≢◌, ◌⊎◌, List, [], ◌∷◌, ◌++◌, length, Some, None, Err, Option, slice_index}
-use Rattle.selfid.specs.declared.packet.PacketFlaw.TheVariants.{NotSelfId as NoSelfId, ReservedBit as ReservedBit}
+use Rattle.selfid.specs.declared.packet.PacketFlaw.TheVariants.{NotSelfId as NoSelfId, ReservedBit as HasReservedBit}
 use Rattle.judging.specs.declared.flaw.Flaw.{Flaw}
 use Rattle.judging.specs.declared.flaw.Flaw.TheVariants.{AlreadyWhole, NotInverse, NotSelfId, ReservedBit, WrongNumber, OutOfTurn, EmptyExtension, SecondUp, TooManyDown, LooseEndLeft, NoCabling}
 use Rattle.selfid.specs.Marks.{ups, downs, present}
@@ -20,7 +20,7 @@ Applies NotInverse qs q = q ≢ inverse_of (slice_index (packets_taken qs) 0)
 -- 3: it is no packet, as bits 31-30 are not binary 10
 Applies NotSelfId qs q = packet_in q ≡ Err NoSelfId
 -- 4: it is no packet, as a reserved bit is set or packet zero has speed code 3
-Applies ReservedBit qs q = packet_in q ≡ Err ReservedBit
+Applies ReservedBit qs q = packet_in q ≡ Err HasReservedBit
 -- 5: the node number is not the count of finished nodes
 Applies WrongNumber qs q = bits 29 24 q ≢ nodes_finished (packets_taken qs)
 -- 6: bit 23 or the extension's number is not the next in turn, or the last extension has more set

@@ -5,7 +5,7 @@ use Rattle.std.proofs.lemmas.Bool.Decides.{Decides-eqb, Decides-and, Decides-or,
 use Rattle.selfid.specs.declared.packet.Packet.{Packet}
 use Rattle.selfid.specs.declared.packet.Packet.TheVariants.{Zero, Extension as Further}
 use Rattle.selfid.specs.declared.packet.PacketFlaw.{PacketFlaw}
-use Rattle.selfid.specs.declared.packet.PacketFlaw.TheVariants.{NotSelfId as NoSelfId, ReservedBit as ReservedBit}
+use Rattle.selfid.specs.declared.packet.PacketFlaw.TheVariants.{NotSelfId as NoSelfId, ReservedBit as HasReservedBit}
 use Rattle.judging.specs.declared.flaw.Flaw.{Flaw}
 use Rattle.judging.specs.declared.flaw.Flaw.TheVariants.{NotSelfId, ReservedBit, WrongNumber, OutOfTurn, EmptyExtension, SecondUp, TooManyDown, LooseEndLeft, NoCabling}
 use Rattle.selfid.specs.Marks.{ups, downs, present}
@@ -40,11 +40,11 @@ pub layout : (q : ℕ) (p : Packet) → packet_in q ≡ Ok p → Layout q p
 layout q p e = go (eqb (q / 2 ^ 30) 2) (is_extension q) refl refl
   where
     further : (b : Bool) → is_extension q ≡ true → reserved_set q ≡ b → read_extension q ≡ Ok p → Layout q p
-    further true k r f = absurd (never_refused ReservedBit p (rw r at f))
+    further true k r f = absurd (never_refused HasReservedBit p (rw r at f))
     further false k r f = subst (Layout q) (same_packet (Further (extension_in q)) p (rw r at f)) (k, refl)
 
     zeroth : (b : Bool) → is_extension q ≡ false → (not (eqb (bits 13 12 q) 0) || eqb (bits 15 14 q) 3) ≡ b → read_zero q ≡ Ok p → Layout q p
-    zeroth true k r f = absurd (never_refused ReservedBit p (rw r at f))
+    zeroth true k r f = absurd (never_refused HasReservedBit p (rw r at f))
     zeroth false k r f = subst (Layout q) (same_packet (Zero (zero_in q)) p (rw r at f)) (k, refl)
 
     go : (a b : Bool) → eqb (q / 2 ^ 30) 2 ≡ a → is_extension q ≡ b → Layout q p
@@ -142,8 +142,8 @@ module _ (qs : List ℕ) (q : ℕ) (t : Tree) (begins : Begins qs) (unfinished :
     where
       go : (r : Result Packet PacketFlaw) → packet_in q ≡ r → Tested packet_tests qs q (judged_read t r)
       go (Err NoSelfId) e = inl (refl, e)
-      go (Err ReservedBit) e = inr (λ h. (let z : ◌≡◌ {A = ℕ} 0 1 = cc in omega arith), inl (refl, e))
-      go (Ok p) e = behind (judged_packet t p) (λ h. never_refused NoSelfId p (sym h ∙ e)) (λ h. never_refused ReservedBit p (sym h ∙ e)) (rw (judged_by_parts t q p (layout q p e)) (parts_tested (λ h. never_refused NoSelfId p (sym h ∙ e)) (λ h. never_refused ReservedBit p (sym h ∙ e))).tested)
+      go (Err HasReservedBit) e = inr (λ h. (let z : ◌≡◌ {A = ℕ} 0 1 = cc in omega arith), inl (refl, e))
+      go (Ok p) e = behind (judged_packet t p) (λ h. never_refused NoSelfId p (sym h ∙ e)) (λ h. never_refused HasReservedBit p (sym h ∙ e)) (rw (judged_by_parts t q p (layout q p e)) (parts_tested (λ h. never_refused NoSelfId p (sym h ∙ e)) (λ h. never_refused HasReservedBit p (sym h ∙ e))).tested)
         where
           behind : (v : Option Flaw) → (Applies NotSelfId qs q → ⊥) → (Applies ReservedBit qs q → ⊥) → Tested (WrongNumber ∷ OutOfTurn ∷ EmptyExtension ∷ SecondUp ∷ TooManyDown ∷ LooseEndLeft ∷ NoCabling ∷ []) qs q v → Tested packet_tests qs q v
           behind None a b k = (a, (b, k))

@@ -4,7 +4,7 @@ use Rattle.selfid.specs.declared.mark.Mark.{Mark}
 use Rattle.selfid.specs.declared.packet.Packet.{Packet}
 use Rattle.selfid.specs.declared.packet.Packet.TheVariants.{Zero, Extension as Further}
 use Rattle.selfid.specs.declared.packet.PacketFlaw.{PacketFlaw}
-use Rattle.selfid.specs.declared.packet.PacketFlaw.TheVariants.{NotSelfId as NoSelfId, ReservedBit as ReservedBit}
+use Rattle.selfid.specs.declared.packet.PacketFlaw.TheVariants.{NotSelfId as NoSelfId, ReservedBit as HasReservedBit}
 use Rattle.judging.specs.declared.flaw.Flaw.{Flaw}
 use Rattle.judging.specs.declared.flaw.Flaw.TheVariants.{NotSelfId, ReservedBit, WrongNumber, OutOfTurn, EmptyExtension, SecondUp, TooManyDown, LooseEndLeft, NoCabling}
 use Rattle.survey.specs.declared.tree.Tree.{Tree}
@@ -45,7 +45,7 @@ judged_packet t (Further p) = judged_parts t p.number (p.turn + 1) p.marks p.mor
 
 abbrev pub packet_flaw : PacketFlaw → Flaw
 packet_flaw NoSelfId = NotSelfId
-packet_flaw ReservedBit = ReservedBit
+packet_flaw HasReservedBit = ReservedBit
 
 abbrev pub judged_read : Tree → Result Packet PacketFlaw → Option Flaw
 judged_read t (Ok p) = judged_packet t p
