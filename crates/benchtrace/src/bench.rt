@@ -16,7 +16,7 @@ fn port(mark: Mark) -> RowPort
     ensures has_the_mark { result ≡ record { mark = mark_code mark; child = 0 } }
 {
     RowPort {
-        mark: mark.code(),
+        mark: u8::from(mark),
         child: 0,
     }
 }
@@ -26,7 +26,7 @@ fn down(child: u8) -> RowPort
     ensures leads_to_the_row { result ≡ record { mark = mark_code Down; child = child } }
 {
     RowPort {
-        mark: Mark::Down.code(),
+        mark: u8::from(Mark::Down),
         child,
     }
 }
@@ -41,7 +41,7 @@ fn node(speed: Speed, power: u8) -> Row
         contender: false,
         initiator: false,
         gap: 63,
-        speed: speed.code(),
+        speed: u8::from(speed),
         power,
         ports: [port(Mark::Absent); PORT_LIMIT],
     }
@@ -59,16 +59,14 @@ fn manager(mut row: Row) -> Row
 
 // The node with these ports from port `first` on.
 fn with(mut row: Row, first: usize, ports: &[RowPort]) -> Row {
-    for (i, port) in ports.iter().enumerate() {
-        if first < PORT_LIMIT && i < PORT_LIMIT - first {
-            row.ports[first + i] = *port;
-        }
+    for (place, port) in row.ports.iter_mut().skip(first).zip(ports) {
+        *place = *port;
     }
     row
 }
 
 // Three cameras: the root has one on port 0 and one on port 2, and its port 1 is open.
-pub(crate) fn three_cameras(heap: Global) -> Result<Vec<Row>, AllocError> {
+pub(crate) fn three_cameras() -> [Row; 3] {
     let root = with(
         manager(node(Speed::S400, 0)),
         0,
@@ -76,18 +74,18 @@ pub(crate) fn three_cameras(heap: Global) -> Result<Vec<Row>, AllocError> {
     );
     let first = with(node(Speed::S200, 4), 0, &[port(Mark::Up)]);
     let second = with(node(Speed::S400, 4), 0, &[port(Mark::Open), port(Mark::Up)]);
-    Ok(vec![in heap; root, first, second]?)
+    [root, first, second]
 }
 
 // A node with three open ports and nothing else on the bus.
-pub(crate) fn lone_node(heap: Global) -> Result<Vec<Row>, AllocError> {
+pub(crate) fn lone_node() -> [Row; 1] {
     let open = port(Mark::Open);
-    Ok(vec![in heap; with(manager(node(Speed::S400, 0)), 0, &[open, open, open])]?)
+    [with(manager(node(Speed::S400, 0)), 0, &[open, open, open])]
 }
 
 // A hub whose first three ports are absent, so that its cables are all told in extensions.
 // Below it an up mark stands in extension 1, in extension 0 and in packet zero.
-pub(crate) fn hub(heap: Global) -> Result<Vec<Row>, AllocError> {
+pub(crate) fn hub() -> [Row; 5] {
     let up = port(Mark::Up);
     let open = port(Mark::Open);
     let root = with(
@@ -100,7 +98,7 @@ pub(crate) fn hub(heap: Global) -> Result<Vec<Row>, AllocError> {
     let near = with(node(Speed::S400, 1), 0, &[open, up]);
     let middle = with(with(node(Speed::S200, 2), 5, &[up]), 8, &[open]);
     let last = with(node(Speed::S100, 5), 2, &[up]);
-    Ok(vec![in heap; root, far, near, middle, last]?)
+    [root, far, near, middle, last]
 }
 
 // Row `place` of a chain: its fields tell the place.
@@ -118,11 +116,7 @@ fn link(place: u8, length: u8) -> Row {
 
 // A chain of so many nodes, row 0 at its end.
 pub(crate) fn chain(heap: Global, length: u8) -> Result<Vec<Row>, AllocError> {
-    let mut rows = Vec::new(heap);
-    for place in 0..length {
-        rows.push(link(place, length))?;
-    }
-    Ok(rows)
+    (0..length).map(|place| link(place, length)).collect(heap)
 }
 
 // A root with a child on each of its sixteen ports, the last row on port 0. Row i has its up mark on port i - 1.
@@ -132,8 +126,7 @@ pub(crate) fn star(heap: Global) -> Result<Vec<Row>, AllocError> {
         *port = down(child);
     }
     let mut rows = vec![in heap; root]?;
-    for first in 0..PORT_LIMIT {
-        rows.push(with(node(Speed::S200, 4), first, &[port(Mark::Up)]))?;
-    }
+    let up = port(Mark::Up);
+    rows.extend((0..PORT_LIMIT).map(|first| with(node(Speed::S200, 4), first, &[up])))?;
     Ok(rows)
 }

@@ -8,7 +8,7 @@ ghost use Rattle.benchtrace.specs.Benches.{HubAnnounces, ThreeCamerasAnnounce};
 use announce::announce;
 use announce::described::Row;
 use announce::frame::Frame;
-use faulty::{Fault, spoil};
+use faulty::{spoiled, with_gap_count_of_64, with_ring};
 use selfid::node::NODE_LIMIT;
 use selfid::packet::{EXTENSION_LIMIT, Packet};
 use std::io;
@@ -87,10 +87,10 @@ fn print_benches(rt: &HostRuntime) -> io::Result<()>
     ensures definitions_give_the_words_of_the_hub { HubAnnounces }
 {
     let heap = rt.alloc();
-    let three = bench::three_cameras(heap)?;
+    let three = bench::three_cameras();
     print_bench(rt, "three cameras", &three, AMPLE)?;
-    print_bench(rt, "a lone node", &bench::lone_node(heap)?, AMPLE)?;
-    print_bench(rt, "a hub with both extensions", &bench::hub(heap)?, AMPLE)?;
+    print_bench(rt, "a lone node", &bench::lone_node(), AMPLE)?;
+    print_bench(rt, "a hub with both extensions", &bench::hub(), AMPLE)?;
     print_bench(
         rt,
         "a root with sixteen children",
@@ -106,40 +106,49 @@ fn print_benches(rt: &HostRuntime) -> io::Result<()>
     print_bench(rt, "three cameras in just enough room", &three, just_enough)
 }
 
-// The bench of three with one thing spoiled.
-fn print_fault(rt: &HostRuntime, name: &str, fault: Fault) -> io::Result<()> {
-    let mut rows = bench::three_cameras(rt.alloc())?;
-    spoil(&mut rows, fault);
-    print_bench(rt, name, &rows, AMPLE)
+// The bench of three, spoiled so.
+fn print_fault<F: FnOnce(&mut [Row; 3])>(rt: &HostRuntime, name: &str, spoil: F) -> io::Result<()>
+    requires can_be_spoiled { F.IsAlwaysCallable spoil }
+{
+    print_bench(rt, name, &spoiled(spoil), AMPLE)
 }
 
-// Descriptions whose rows are refused.
-fn print_faults(rt: &HostRuntime) -> io::Result<()> {
-    print_fault(rt, "a gap count of 64", Fault::GapOutOfRange)?;
-    print_fault(rt, "a speed code of 3", Fault::SpeedOutOfRange)?;
-    print_fault(rt, "a power class of 8", Fault::PowerOutOfRange)?;
-    print_fault(rt, "a mark code of 4", Fault::MarkOutOfRange)?;
-    print_fault(rt, "a child's row behind the last", Fault::ChildOutOfRange)?;
-    print_fault(rt, "a row reached twice", Fault::ReachedTwice)?;
-    print_fault(rt, "a row never reached", Fault::NeverReached)?;
-    print_fault(rt, "a root with an up mark", Fault::RootWithUp)?;
-    print_fault(rt, "a node without an up mark", Fault::NodeWithoutUp)?;
-    print_fault(rt, "a node with two up marks", Fault::NodeWithTwoUps)?;
-    print_fault(rt, "a ring", Fault::Ring)
+// Descriptions whose rows are refused: fields and codes out of range.
+fn print_faulty_fields(rt: &HostRuntime) -> io::Result<()> {
+    print_bench(rt, "a gap count of 64", &with_gap_count_of_64(), AMPLE)?;
+    print_fault(rt, "a speed code of 3", |rows| rows[1].speed = 3)?;
+    print_fault(rt, "a power class of 8", |rows| rows[1].power = 8)?;
+    print_fault(rt, "a mark code of 4", |rows| rows[2].ports[15].mark = 4)?;
+    print_fault(rt, "a child's row behind the last", |rows| {
+        rows[0].ports[0].child = 3;
+    })
+}
+
+// The same: rows that are no tree.
+fn print_faulty_trees(rt: &HostRuntime) -> io::Result<()> {
+    print_fault(rt, "a row reached twice", |rows| rows[0].ports[2].child = 1)?;
+    print_fault(rt, "a row never reached", |rows| rows[0].ports[2].mark = 1)?;
+    print_fault(
+        rt,
+        "a root with an up mark",
+        |rows| rows[0].ports[1].mark = 2,
+    )?;
+    print_fault(rt, "a node without an up mark", |rows| {
+        rows[1].ports[0].mark = 1;
+    })?;
+    print_fault(rt, "a node with two up marks", |rows| {
+        rows[2].ports[15].mark = 2;
+    })?;
+    print_bench(rt, "a ring", &with_ring(), AMPLE)
 }
 
 // Descriptions that are too long, or for which there is too little room; where two tests would refuse, the first in order does.
 fn print_rooms(rt: &HostRuntime) -> io::Result<()> {
-    let heap = rt.alloc();
-    let three = bench::three_cameras(heap)?;
-    let mut ring = bench::three_cameras(heap)?;
-    spoil(&mut ring, Fault::Ring);
-    let mut gap = bench::three_cameras(heap)?;
-    spoil(&mut gap, Fault::GapOutOfRange);
+    let three = bench::three_cameras();
     let short_reach = Room { reach: 2, ..AMPLE };
     let short_walk = Room { walk: 2, ..AMPLE };
     let short_words = Room { words: 5, ..AMPLE };
-    let long = bench::chain(heap, 64)?;
+    let long = bench::chain(rt.alloc(), 64)?;
     print_bench(rt, "no row", &[], AMPLE)?;
     print_bench(rt, "a chain of 64", &long, AMPLE)?;
     print_bench(rt, "a chain of 64 and too few words", &long, short_words)?;
@@ -148,11 +157,11 @@ fn print_rooms(rt: &HostRuntime) -> io::Result<()> {
     print_bench(
         rt,
         "a stack row too short and a gap count of 64",
-        &gap,
+        &with_gap_count_of_64(),
         short_walk,
     )?;
     print_bench(rt, "too few words", &three, short_words)?;
-    print_bench(rt, "too few words and a ring", &ring, short_words)
+    print_bench(rt, "too few words and a ring", &with_ring(), short_words)
 }
 
 // What a word is as a packet, with the word that the packet is sent as; or the number of the stop.
@@ -211,7 +220,8 @@ fn print_words(rt: &HostRuntime) -> io::Result<()> {
 
 fn main(rt: HostRuntime) -> io::Result<()> {
     print_benches(&rt)?;
-    print_faults(&rt)?;
+    print_faulty_fields(&rt)?;
+    print_faulty_trees(&rt)?;
     print_rooms(&rt)?;
     print_words(&rt)
 }

@@ -13,8 +13,7 @@ use Rattle.judging.proofs.Rebuilt.{as_many_nodes}
 use Rattle.judging.proofs.Recognition.{whole_announced, announced_whole}
 use Rattle.stops.specs.declared.Spoil.{Spoil}
 use Rattle.stops.specs.declared.QuadletStop.TheVariants.{Flawed, Spoiled}
-use Rattle.surveyexamples.specs.declared.seen.Seen.{Seen}
-use Rattle.surveyexamples.specs.declared.seen.Seen.TheVariants.{BusOf, Stop}
+use Rattle.surveyexamples.specs.Stops.{Seen, bus_of, stopped}
 use Rattle.survey.specs.declared.tree.Tree.{Tree}
 use Rattle.survey.specs.Judging.{judged}
 use Rattle.survey.specs.Views.{gathered_with, nothing_offered, Shown}
@@ -79,11 +78,11 @@ module _ (qs : List ℕ) (q : ℕ) where
 
 -- What is seen, computed: the quadlets qs were taken, and others are offered.
 abbrev seen_settled : (qs : List ℕ) (w : Bool) → Seen
-seen_settled qs w = cond w (BusOf (nodes_finished (packets_taken qs))) (Stop 32 (length qs))
+seen_settled qs w = cond w (bus_of (nodes_finished (packets_taken qs))) (stopped 32 (length qs))
 
 abbrev seen_by : Option Flaw → (qs : List ℕ) (further : Seen) → Seen
 seen_by None qs further = further
-seen_by (Some f) qs further = Stop (flaw_number f) (length qs)
+seen_by (Some f) qs further = stopped (flaw_number f) (length qs)
 
 abbrev seen_after : (qs others : List ℕ) → Seen
 seen_after qs [] = seen_settled qs (whole qs)
@@ -92,7 +91,7 @@ seen_after qs (q ∷ others) = seen_by (verdict_computed qs q) qs (seen_after (q
 settles : (qs : List ℕ) → Begins qs → (r : Shown) → SettleCall (gathered_with qs None) r → seen_in r ≡ seen_after qs []
 settles qs b r (inl k) =
     let count = k.shows.count ∙ sym (as_many_nodes k.cabling qs k.announces) in
-    ap seen_in k.shows.nodes ∙ ap BusOf count ∙ sym (ap (seen_settled qs) (announced_whole k.cabling qs k.announces))
+    ap seen_in k.shows.nodes ∙ ap bus_of count ∙ sym (ap (seen_settled qs) (announced_whole k.cabling qs k.announces))
 settles qs b r (inr k) = by_whole (whole qs) refl
   where
     by_whole : (w : Bool) → whole qs ≡ w → seen_in r ≡ seen_settled qs w
@@ -107,7 +106,7 @@ answered qs q others further b go_on (Ok _) h k =
     let seen : SeesFrom h others further = subst (λ g. SeesFrom g others further) (sym k.then) (go_on k.passes.still_begins) in
     subst (λ v. SeesFrom h others (seen_by v qs further)) (only_verdict qs q b None k.passes) seen
 answered qs q others further b go_on (Err (Flawed s)) h k =
-    ap (λ v. seen_by v qs further) (sym (only_verdict qs q b (Some s.flaw) k.fails)) ∙ ap (Stop (flaw_number s.flaw)) (sym k.place)
+    ap (λ v. seen_by v qs further) (sym (only_verdict qs q b (Some s.flaw) k.fails)) ∙ ap (stopped (flaw_number s.flaw)) (sym k.place)
 answered qs q others further b go_on (Err (Spoiled p)) h k = absurd (never_spoiled k.by k.spoiled)
 
 offered : (qs others : List ℕ) → Begins qs → SeesFrom (gathered_with qs None) others (seen_after qs others)

@@ -1,23 +1,21 @@
 -- Worked examples: a few rows of quadlets, and what a survey sees of each.
 use Rattle.std.specs.Prelude.{◌≡◌, ℕ, zero, suc, ◌+◌, ◌*◌, List, [], ◌∷◌, ◌++◌, length, Ok, Err, Result}
 use Rattle.stops.specs.declared.QuadletStop.{QuadletStop}
-use Rattle.surveyexamples.specs.declared.seen.Seen.{Seen}
-use Rattle.surveyexamples.specs.declared.seen.Seen.TheVariants.{BusOf, Stop}
+use Rattle.surveyexamples.specs.Stops.{Seen, bus_of, stopped, seen_cause, seen_stop}
 use Rattle.selfid.specs.Packets.{with_inverses}
-use Rattle.stops.specs.Numbers.{quadlet_number, quadlet_place, cause_number, cause_place}
 use Rattle.survey.specs.Views.{Gathered, nothing_offered, Shown, bus, void}
 use Rattle.survey.specs.Offering.{QuadletCall}
 use Rattle.survey.specs.Settling.{SettleCall}
 
 -- What a record shows: a bus of so many nodes, or a stop with its number and place.
 abbrev pub seen_in : Shown → Seen
-seen_in (bus rows) = BusOf (length rows)
-seen_in (void cause) = Stop (cause_number cause) (cause_place cause)
+seen_in (bus rows) = bus_of (length rows)
+seen_in (void cause) = Err (seen_cause cause)
 
 -- What is seen once a quadlet is answered: it is taken, and `further` says what is seen from there on; or it is turned away, and its stop is seen.
 abbrev pub SeesAnswer : Result (Unit {0}) QuadletStop → (further : Type 0) → (s : Seen) → Type 0
 SeesAnswer (Ok _) further s = further
-SeesAnswer (Err z) further s = s ≡ Stop (quadlet_number z) (quadlet_place z)
+SeesAnswer (Err z) further s = s ≡ Err (seen_stop z)
 
 -- From the gathering g on, the quadlets are offered one after another, and s is seen, whatever the calls answer as their contracts allow:
 -- in the record to which the gathering settles, or in the stop of the first quadlet that is turned away.
@@ -43,34 +41,34 @@ example qs s = record { offer = qs; sees = s }
 abbrev pub examples : List Example
 examples =
     -- nothing is offered: not whole
-    example [] (Stop 32 0)
+    example [] (stopped 32 0)
     -- a lone node
-    ∷ example (0x807F8856 ∷ 0x7F8077A9 ∷ []) (BusOf 1)
+    ∷ example (0x807F8856 ∷ 0x7F8077A9 ∷ []) (bus_of 1)
     -- its inverse with bit 0 turned
-    ∷ example (0x807F8856 ∷ 0x7F8077A8 ∷ []) (Stop 2 1)
+    ∷ example (0x807F8856 ∷ 0x7F8077A8 ∷ []) (stopped 2 1)
     -- a quadlet behind a whole announcement
-    ∷ example (0x807F8856 ∷ 0x7F8077A9 ∷ 0x00000000 ∷ []) (Stop 1 2)
+    ∷ example (0x807F8856 ∷ 0x7F8077A9 ∷ 0x00000000 ∷ []) (stopped 1 2)
     -- speed code 3
-    ∷ example (0x807FC856 ∷ []) (Stop 4 0)
+    ∷ example (0x807FC856 ∷ []) (stopped 4 0)
     -- an extension with absent marks only
-    ∷ example (0x807F4481 ∷ 0x7F80BB7E ∷ 0x80800000 ∷ []) (Stop 7 2)
+    ∷ example (0x807F4481 ∷ 0x7F80BB7E ∷ 0x80800000 ∷ []) (stopped 7 2)
     -- a root with two down marks and no loose end
-    ∷ example (0x807F88DE ∷ []) (Stop 9 0)
+    ∷ example (0x807F88DE ∷ []) (stopped 9 0)
     -- a root with one down mark and two loose ends
-    ∷ example (0x807F4480 ∷ 0x7F80BB7F ∷ 0x817F8460 ∷ 0x7E807B9F ∷ 0x827F8876 ∷ []) (Stop 10 4)
+    ∷ example (0x807F4480 ∷ 0x7F80BB7F ∷ 0x817F8460 ∷ 0x7E807B9F ∷ 0x827F8876 ∷ []) (stopped 10 4)
     ∷ []
 
 -- The tests that none of these meets.
 abbrev pub further_examples : List Example
 further_examples =
     -- bits 31-30 are not binary 10
-    example (0x407F8856 ∷ []) (Stop 3 0)
+    example (0x407F8856 ∷ []) (stopped 3 0)
     -- a second node that calls itself node 0
-    ∷ example (0x807F4480 ∷ 0x7F80BB7F ∷ 0x807F4480 ∷ []) (Stop 5 2)
+    ∷ example (0x807F4480 ∷ 0x7F80BB7F ∷ 0x807F4480 ∷ []) (stopped 5 2)
     -- an extension where packet zero is due
-    ∷ example (0x80810000 ∷ []) (Stop 6 0)
+    ∷ example (0x80810000 ∷ []) (stopped 6 0)
     -- two up marks
-    ∷ example (0x807F44A0 ∷ []) (Stop 8 0)
+    ∷ example (0x807F44A0 ∷ []) (stopped 8 0)
     ∷ []
 
 -- Leaves: nodes with an up mark on port 0 and no other cable; k of them from number i on.
@@ -86,4 +84,4 @@ abbrev pub most_leaves : List ℕ
 most_leaves = with_inverses (leaves 58 0)
 
 abbrev pub leaves_examples : List Example
-leaves_examples = example most_leaves (Stop 32 116) ∷ example (most_leaves ++ (leaf_word 58 ∷ [])) (Stop 11 116) ∷ []
+leaves_examples = example most_leaves (stopped 32 116) ∷ example (most_leaves ++ (leaf_word 58 ∷ [])) (stopped 11 116) ∷ []

@@ -1,3 +1,4 @@
+pub mod Stops
 pub mod Examples
 pub mod Runs
 pub mod Bench

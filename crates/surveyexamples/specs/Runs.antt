@@ -2,7 +2,7 @@
 use Rattle.std.specs.Prelude.{◌≡◌, ℕ, List, [], Result}
 use Rattle.stops.specs.declared.QuadletStop.{QuadletStop}
 use Rattle.survey.specs.Views.{Gathered}
-use Rattle.surveyexamples.specs.declared.seen.Seen.{Seen}
+use Rattle.surveyexamples.specs.Stops.{Seen}
 use Rattle.surveyexamples.specs.Examples.{SeesAnswer, SeesFrom}
 
 -- The quadlets qs are offered to g, which answers a and is then h: what is seen of qs from g on is the stop in a, or is what h settles to.

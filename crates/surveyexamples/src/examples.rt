@@ -36,25 +36,27 @@ fn print_example(
 // Nothing is offered; a lone node; then rows of which the last quadlet is turned away:
 // a wrong inverse, a quadlet behind a whole announcement, a speed code of 3, an extension with absent marks only,
 // a root whose children were not announced, and a root that leaves a loose end.
-fn print_all(rt: &HostRuntime, gathering: Gathering) -> io::Result<()> {
-    let gathering = print_example(rt, gathering, &[])?;
-    let gathering = print_example(rt, gathering, &[0x807F_8856, 0x7F80_77A9])?;
-    let gathering = print_example(rt, gathering, &[0x807F_8856, 0x7F80_77A8])?;
-    let gathering = print_example(rt, gathering, &[0x807F_8856, 0x7F80_77A9, 0])?;
-    let gathering = print_example(rt, gathering, &[0x807F_C856])?;
-    let gathering = print_example(rt, gathering, &[0x807F_4481, 0x7F80_BB7E, 0x8080_0000])?;
-    let gathering = print_example(rt, gathering, &[0x807F_88DE])?;
-    let _ = print_example(
-        rt,
-        gathering,
-        &[
-            0x807F_4480,
-            0x7F80_BB7F,
-            0x817F_8460,
-            0x7E80_7B9F,
-            0x827F_8876,
-        ],
-    )?;
+const EXAMPLES: [&[u32]; 8] = [
+    &[],
+    &[0x807F_8856, 0x7F80_77A9],
+    &[0x807F_8856, 0x7F80_77A8],
+    &[0x807F_8856, 0x7F80_77A9, 0],
+    &[0x807F_C856],
+    &[0x807F_4481, 0x7F80_BB7E, 0x8080_0000],
+    &[0x807F_88DE],
+    &[
+        0x807F_4480,
+        0x7F80_BB7F,
+        0x817F_8460,
+        0x7E80_7B9F,
+        0x827F_8876,
+    ],
+];
+
+fn print_all(rt: &HostRuntime, mut gathering: Gathering) -> io::Result<()> {
+    for quadlets in EXAMPLES {
+        gathering = print_example(rt, gathering, quadlets)?;
+    }
     Ok(())
 }
 

@@ -1,16 +1,16 @@
 //! What is seen, as text.
 
-use crate::seen::Seen;
+use crate::seen::{Seen, Stop};
 use std::io;
 use stops::QuadletStop;
 
 pub(crate) fn print_seen(rt: &HostRuntime, seen: Seen) -> io::Result<()> {
     match seen {
-        Seen::BusOf(nodes) => println!(rt; "bus of {nodes}"),
-        Seen::Stop(number, place) => println!(rt; "stop {number} at {place}"),
+        Ok(nodes) => println!(rt; "bus of {nodes}"),
+        Err(stop) => println!(rt; "{stop}"),
     }
 }
 
 pub(crate) fn print_stop(rt: &HostRuntime, stop: QuadletStop) -> io::Result<()> {
-    print_seen(rt, Seen::Stop(stop.number(), stop.place()))
+    print_seen(rt, Err(Stop::from(stop)))
 }

@@ -26,6 +26,7 @@ fn yes_or_no(flag: bool) -> &'static str {
     if flag { "yes" } else { "no" }
 }
 
+// (A function, and no Display of a mark: the print has letters for the same marks, and neither text is the mark's own.)
 fn mark_name(mark: Mark) -> &'static str {
     match mark {
         Mark::Absent => "absent",
@@ -40,7 +41,7 @@ fn print_fields(rt: &HostRuntime, number: usize, fields: Fields) -> io::Result<(
     let contender = yes_or_no(fields.contender);
     let initiator = yes_or_no(fields.initiator);
     let gap = fields.gap;
-    let speed = fields.speed.code();
+    let speed = u8::from(fields.speed);
     let power = fields.power;
     println!(rt;
         "node {number}: link {link}, contender {contender}, initiator {initiator}, gap {gap}, speed {speed}, power {power}"
@@ -84,6 +85,7 @@ fn print_port_of(rt: &HostRuntime, record: &Record, number: usize, port: usize) 
     }
 }
 
+// Asks for each port by its number.
 fn print_ports(rt: &HostRuntime, record: &Record, number: usize) -> io::Result<()> {
     for port in 0..PORT_LIMIT {
         print_port_of(rt, record, number, port)?;
@@ -91,6 +93,7 @@ fn print_ports(rt: &HostRuntime, record: &Record, number: usize) -> io::Result<(
     Ok(())
 }
 
+// Asks for each node by its number.
 fn print_nodes(rt: &HostRuntime, record: &Record) -> io::Result<()> {
     for number in 0..record.node_count() {
         print_node(rt, record, number)?;

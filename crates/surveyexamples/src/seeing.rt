@@ -5,7 +5,7 @@ ghost use Rattle.survey.specs.Views.{gathered, nothing_offered, shown};
 ghost use Rattle.surveyexamples.specs.Examples.{seen_in};
 ghost use Rattle.surveyexamples.specs.Runs.{OfferCall, SeeCall};
 
-use crate::seen::Seen;
+use crate::seen::{Seen, Stop};
 use stops::QuadletStop;
 use survey::gathering::Gathering;
 use survey::record::Record;
@@ -14,10 +14,8 @@ use survey::record::Record;
 pub(crate) fn offer(gathering: &mut Gathering, quadlets: &[u32]) -> Result<(), QuadletStop>
     ensures offers_them_in_order { OfferCall (gathered gathering.old) quadlets.now result (gathered gathering.new) }
 {
-    for i in 0..quadlets.len() {
-        if let Err(stop) = gathering.quadlet(quadlets[i]) {
-            return Err(stop);
-        }
+    for quadlet in quadlets {
+        gathering.quadlet(*quadlet)?;
     }
     Ok(())
 }
@@ -26,8 +24,8 @@ pub(crate) fn seen_in(settled: &Record) -> Seen
     ensures is_what_it_shows { result ≡ seen_in (shown settled.now) }
 {
     match settled.void_cause() {
-        Some(cause) => Seen::Stop(cause.number(), cause.place()),
-        None => Seen::BusOf(settled.node_count()),
+        Some(cause) => Err(Stop::from(cause)),
+        None => Ok(settled.node_count()),
     }
 }
 
@@ -41,6 +39,6 @@ pub(crate) fn see(mut gathering: Gathering, quadlets: &[u32]) -> (Seen, Gatherin
             let record = gathering.settle();
             (seen_in(&record), record.reset())
         }
-        Err(stop) => (Seen::Stop(stop.number(), stop.place()), gathering.reset()),
+        Err(stop) => (Err(Stop::from(stop)), gathering.reset()),
     }
 }

@@ -1,8 +1,49 @@
 //! What is seen of some quadlets.
 
-// A bus of so many nodes, or a stop with its number and place.
-#[derive(Clone, Copy)]
-pub enum Seen {
-    BusOf(usize),
-    Stop(u8, usize),
+ghost use Rattle.std.specs.Prelude.{◌≡◌};
+ghost use Rattle.surveyexamples.specs.Stops.{seen_cause, seen_stop};
+
+use std::fmt;
+use stops::{Cause, QuadletStop};
+
+// A stop, by its number and its place.
+#[derive(Clone, Copy, Debug, PartialEq, Eq)]
+pub struct Stop {
+    pub number: u8,
+    pub place: usize,
+}
+
+// A bus of so many nodes, or a stop.
+pub type Seen = Result<usize, Stop>;
+
+impl From<QuadletStop> for Stop {
+    ghost from_gives = { λ turned_away seen. seen ≡ seen_stop turned_away };
+
+    fn from(stop: QuadletStop) -> Stop {
+        Stop {
+            number: stop.number(),
+            place: stop.place(),
+        }
+    }
+}
+
+impl From<Cause> for Stop {
+    ghost from_gives = { λ cause seen. seen ≡ seen_cause cause };
+
+    fn from(cause: Cause) -> Stop {
+        Stop {
+            number: cause.number(),
+            place: cause.place(),
+        }
+    }
+}
+
+impl fmt::Display for Stop {
+    ghost use Rattle.std.specs.Prelude.{◌++◌, codes, decimal, Some};
+
+    ghost output = { λ stop. Some (codes "stop " ++ decimal stop.number ++ codes " at " ++ decimal stop.place) };
+
+    fn fmt<W: fmt::Write>(&self, f: &mut fmt::Formatter<W>) -> fmt::Result {
+        write!(f, "stop {} at {}", self.number, self.place)
+    }
 }
