@@ -1,5 +1,7 @@
 -- What is found at a place of a list.
-use Rattle.std.proofs.Common.{◌≡◌, ℕ, zero, suc, ◌<◌, ◌≤◌, List, [], ◌∷◌, length, get_or, take, Some, None, Ok, Err, Option, sym, refl, ap, ◌∙◌, arith}
+use Rattle.std.proofs.Common.{Bor, ◌≡◌, ℕ, zero, suc, ◌<◌, ◌≤◌, List, [], ◌∷◌, length, get_or, take, Some, None, Ok, Err, Option, sym, refl, ap, ◌∙◌, arith}
+use Rattle.std.specs.List.{HoldsAt}
+use Rattle.std.specs.Option.{MatchOption, option_copied, ok_or}
 use Rattle.std.proofs.lemmas.List.{length-take-le, get_or-take}
 use Rattle.stops.specs.declared.QuestionStop.TheVariants.{NoneSuch}
 use Rattle.stops.specs.declared.Cause.{Cause}
@@ -18,6 +20,11 @@ pub found_here : {X : Type 0} (xs : List X) (i : ℕ) (d : X) → i < length xs 
 found_here [] i d h = absurd (omega arith)
 found_here (x ∷ xs) zero d h = refl
 found_here (x ∷ xs) (suc i) d h = found_here xs i d (omega arith)
+
+-- What `get` gives is what is found there.
+pub found_read : {X : Type 0} (r : Option (Bor X)) (xs : List X) (i : ℕ) → MatchOption r (length xs ≤ i) (λ x. (i < length xs) × HoldsAt (λ y. x.now ≡ y) xs i) → ok_or (option_copied r) NoneSuch ≡ found_at xs i
+found_read None xs i h = found_past xs i h
+found_read (Some x) xs i (l, h) = ap Ok (h x.now) ∙ found_here xs i x.now l
 
 -- A record's cause is what it shows.
 cause_shown : (k : Option Cause) (rs : List Row) → void_cause (shown_with k rs) ≡ k

@@ -1,5 +1,5 @@
 -- How far a fill has come, draw by draw.
-use Rattle.std.proofs.Common.{◌≡◌, ℕ, ◌+◌, ◌≤◌, List, [], ◌∷◌, ◌++◌, length, drop, Some, None, Err, Option, sym, refl, ap, ◌∙◌, subst, append_assoc, arith, length-append, length-take}
+use Rattle.std.proofs.Common.{◌≡◌, ℕ, ◌+◌, ◌≤◌, List, [], ◌∷◌, ◌++◌, length, drop, Some, None, Err, Option, sym, refl, ap, ◌∙◌, subst, append_assoc, arith, length-append}
 use Rattle.std.proofs.lemmas.List.{append-nil}
 use Rattle.source.specs.declared.Ending.{Ending}
 use Rattle.source.specs.declared.Ending.TheVariants.{Clean, Stopped}
@@ -14,7 +14,7 @@ use Rattle.survey.specs.declared.gathering.Gathering.{Gathering}
 use Rattle.survey.specs.Views.{Gathered, gathered_with, gathered}
 use Rattle.survey.specs.Offering.{Taken, TurnedAway, QuadletCall}
 use Rattle.survey.specs.Filling.{EachPasses, AllTaken, FillCall}
-use Rattle.survey.specs.Tallies.{quadlet_limit}
+use Rattle.judging.proofs.Rebuilt.{quadlets_in_range}
 
 -- What a draw tells of the list that it was drawn from.
 first_waits : (w : List ℕ) (e : Ending) (q : ℕ) → Quadlet q ≡ drawn_from w e → w ≡ q ∷ drop 1 w
@@ -43,11 +43,8 @@ far_start w e g c =
     }
 
 -- A gathering has taken few quadlets.
-few : (g : Gathering) → length (gathered g).taken ≤ quadlet_limit
-few g = omega (arith, length-take g.count g.quadlets, g.count_in_range)
-
-pub far_few : {w : List ℕ} {e : Ending} {g : Gathered} {v : List ℕ} {d : Ending} {n : ℕ} (h : Gathering) → Far w e g v d n (gathered h) → n ≤ quadlet_limit
-far_few {g = g} h far = omega (arith, far.taken.count, few h, ap (λ (x : Gathered). length x.taken) far.taken.then ∙ length-append g.taken far.front)
+pub far_few : {w : List ℕ} {e : Ending} {g : Gathered} {v : List ℕ} {d : Ending} {n : ℕ} (h : Gathering) → Far w e g v d n (gathered h) → n ≤ 378
+far_few {g = g} h far = omega (arith, far.taken.count, quadlets_in_range (gathered h).taken h.begins, ap (λ (x : Gathered). length x.taken) far.taken.then ∙ length-append g.taken far.front)
 
 module _ {w : List ℕ} {e : Ending} {g : Gathered} {v : List ℕ} {d : Ending} {n : ℕ} {h : Gathered} (far : Far w e g v d n h) where
   then_drawn : (q : ℕ) → Quadlet q ≡ drawn_from v d → w ≡ (far.front ++ (q ∷ [])) ++ drop 1 v

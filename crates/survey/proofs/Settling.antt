@@ -1,5 +1,5 @@
 -- What a gathering begins with, and what it settles to.
-use Rattle.std.proofs.Common.{◌≡◌, ℕ, zero, suc, ◌-◌, Bool, true, false, cond, List, [], ◌++◌, length, take, drop, replicate, Some, None, Option, sym, refl, ap, ◌∙◌, inl, inr, arith}
+use Rattle.std.proofs.Common.{◌≡◌, ℕ, zero, suc, ◌-◌, Bool, true, false, cond, [], ◌++◌, length, take, drop, replicate, Some, None, Option, sym, refl, ap, ◌∙◌, inl, inr, arith}
 use Rattle.std.proofs.lemmas.List.{take_at}
 use Rattle.selfid.specs.declared.mark.Mark.TheVariants.{Absent}
 use Rattle.selfid.specs.Cabling.{Cabling, node, Ports, end, plain, absent}
@@ -38,10 +38,9 @@ pub nothing_begins : Begins []
 unfolding lone absents
 nothing_begins = ∣ (lone, record { behind = announcement lone; announces = record { proper = record { sound = (refl, refl, tt); few = omega arith }; exactly = refl } }) ∣₁
 
-pub fresh_facts : (quadlets : List ℕ) (t : Tree) → Fresh t → Facts quadlets 0 t
-fresh_facts quadlets t (f, l, r, k, m, room) =
+pub fresh_facts : (t : Tree) → Fresh t → Facts [] t
+fresh_facts t (f, l, r, k, m, room) =
     record {
-      count_in_range = omega arith;
       begins = nothing_begins;
       has_room = room;
       counts_tally = (f, l, k, r, λ _. k);

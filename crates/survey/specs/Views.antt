@@ -15,7 +15,7 @@ abbrev pub gathered_with : List ℕ → Option Spoil → Gathered
 gathered_with qs s = record { taken = qs; spoil = s }
 
 abbrev pub gathered : Gathering → Gathered
-gathered g = gathered_with (take g.count g.quadlets) g.spoil
+gathered g = gathered_with g.quadlets.items g.spoil
 
 abbrev pub nothing_offered : Gathered
 nothing_offered = gathered_with [] None

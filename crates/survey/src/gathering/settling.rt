@@ -14,15 +14,7 @@ impl Gathering {
     pub fn reset(self) -> Gathering
         ensures nothing_is_offered { gathered result ≡ nothing_offered }
     {
-        let quadlets = self.quadlets;
-        let mut tree = self.tree;
-        tree.forget();
-        Gathering {
-            quadlets,
-            count: 0,
-            tree,
-            spoil: None,
-        }
+        Gathering::new()
     }
 
     // Why the gathering is no bus, if it is none.
@@ -35,7 +27,7 @@ impl Gathering {
         if self.is_whole() {
             None
         } else {
-            Some(Cause::NotWhole(self.count))
+            Some(Cause::NotWhole(self.quadlets.len()))
         }
     }
 

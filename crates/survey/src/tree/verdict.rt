@@ -35,72 +35,87 @@ fn no_packet(flaw: PacketFlaw) -> Flaw
     }
 }
 
+// What a node has told with a packet: how many up and down marks, which packet it is, and whether more of its packets follow.
+#[derive(Clone, Copy)]
+struct Told {
+    ups: usize,
+    downs: usize,
+    turn: usize,
+    more: bool,
+}
+
 impl Tree {
-    // Can the announcement still be completed if the node so far has these up and down marks?
-    fn can_be_completed(&self, ups: usize, downs: usize, turn: usize, more: bool) -> bool
+    // Can the announcement still be completed if the node so far has told this?
+    fn can_be_completed(&self, told: Told) -> bool
         requires counts_are_in_range { InRange self.now }
-        requires few_ups { ups ≤ 1 }
-        requires few_downs { downs ≤ self.now.loose }
-        requires turn_is_small { turn ≤ extension_limit }
-        ensures tells_if_there_are_enough_nodes { result ≡ completable self.now ups downs turn more }
+        requires few_ups { told.ups ≤ 1 }
+        requires few_downs { told.downs ≤ self.now.loose }
+        requires turn_is_small { told.turn ≤ extension_limit }
+        ensures tells_if_there_are_enough_nodes { result ≡ completable self.now told.ups told.downs told.turn told.more }
     {
         let finished = self.finished as u8;
         let loose = self.loose as u8;
-        if more {
-            let left = PORT_LIMIT.saturating_sub(marks_before(turn + 1));
-            completes_within(finished, loose, ups as u8, downs as u8, left as u8)
+        let ups = told.ups as u8;
+        let downs = told.downs as u8;
+        if told.more {
+            let left = PORT_LIMIT.saturating_sub(marks_before(told.turn + 1));
+            completes_within(finished, loose, ups, downs, left as u8)
         } else {
-            completes_after(finished, loose, ups as u8, downs as u8)
+            completes_after(finished, loose, ups, downs)
         }
     }
 
     // What is wrong with the marks of the node so far, if anything is.
-    fn judge_marks(&self, ups: usize, downs: usize, turn: usize, more: bool) -> Option<Flaw>
+    fn judge_marks(&self, told: Told) -> Result<(), Flaw>
         requires counts_are_in_range { InRange self.now }
-        requires turn_is_small { turn ≤ extension_limit }
-        ensures is_the_first_flaw { result ≡ judged_marks self.now ups downs turn more }
+        requires turn_is_small { told.turn ≤ extension_limit }
+        ensures is_the_first_flaw { flaw_of result ≡ judged_marks self.now told.ups told.downs told.turn told.more }
     {
-        if ups >= 2 {
-            return Some(Flaw::SecondUp);
+        if told.ups >= 2 {
+            return Err(Flaw::SecondUp);
         }
-        if downs > self.loose {
-            return Some(Flaw::TooManyDown);
+        if told.downs > self.loose {
+            return Err(Flaw::TooManyDown);
         }
-        if !more && ups == 0 && downs < self.loose {
-            return Some(Flaw::LooseEndLeft);
+        if !told.more && told.ups == 0 && told.downs < self.loose {
+            return Err(Flaw::LooseEndLeft);
         }
-        if self.can_be_completed(ups, downs, turn, more) {
-            None
+        if self.can_be_completed(told) {
+            Ok(())
         } else {
-            Some(Flaw::NoCabling)
+            Err(Flaw::NoCabling)
         }
     }
 
     // What is wrong with a packet of these parts, if anything is.
-    fn judge_parts(&self, number: u8, turn: usize, marks: &[Mark], more: bool) -> Option<Flaw>
+    fn judge_parts(&self, number: u8, turn: usize, marks: &[Mark], more: bool) -> Result<(), Flaw>
         requires counts_are_in_range { InRange self.now }
         requires few_packets_are_told { self.now.turn ≤ extension_limit }
         requires few_marks { length marks.now ≤ 8 }
-        ensures is_the_first_flaw { result ≡ judged_parts self.now number turn marks.now more }
+        ensures is_the_first_flaw { flaw_of result ≡ judged_parts self.now number turn marks.now more }
     {
         if number as usize != self.finished {
-            return Some(Flaw::WrongNumber);
+            return Err(Flaw::WrongNumber);
         }
         if turn != self.turn || turn == EXTENSION_LIMIT && more {
-            return Some(Flaw::OutOfTurn);
+            return Err(Flaw::OutOfTurn);
         }
         if turn > 0 && !more && count(marks, Mark::Absent) == marks.len() {
-            return Some(Flaw::EmptyExtension);
+            return Err(Flaw::EmptyExtension);
         }
-        let ups = count(&self.marks, Mark::Up) + count(marks, Mark::Up);
-        let downs = count(&self.marks, Mark::Down) + count(marks, Mark::Down);
-        self.judge_marks(ups, downs, turn, more)
+        self.judge_marks(Told {
+            ups: count(&self.marks, Mark::Up) + count(marks, Mark::Up),
+            downs: count(&self.marks, Mark::Down) + count(marks, Mark::Down),
+            turn,
+            more,
+        })
     }
 
-    fn judge_packet(&self, packet: Packet) -> Option<Flaw>
+    // What is wrong with a packet, if anything is.
+    fn judge_packet(&self, packet: Packet) -> Result<(), Flaw>
         requires counts_are_in_range { InRange self.now }
         requires few_packets_are_told { self.now.turn ≤ extension_limit }
-        ensures is_the_first_flaw { result ≡ judged_packet self.now packet }
+        ensures is_the_first_flaw { flaw_of result ≡ judged_packet self.now packet }
     {
         match packet {
             Packet::Zero(zero) => self.judge_parts(zero.number, 0, &zero.marks, zero.more),
@@ -124,9 +139,7 @@ impl Tree {
             Ok(packet) => packet,
             Err(flaw) => return Err(no_packet(flaw)),
         };
-        match self.judge_packet(packet) {
-            Some(flaw) => Err(flaw),
-            None => Ok(packet),
-        }
+        self.judge_packet(packet)?;
+        Ok(packet)
     }
 }
