@@ -1,21 +1,18 @@
 -- What always holds of a gathering.
-use Rattle.std.proofs.Common.{◌≡◌, ℕ, ◌<◌, ◌≤◌, true, false, List, [], ◌∷◌, ◌++◌, length, None, Ok, sym, ap, ◌∙◌, subst, arith, length-append}
+use Rattle.std.proofs.Common.{◌≡◌, ℕ, ◌<◌, true, false, List, [], ◌∷◌, ◌++◌, length, None, Ok, sym, ap, subst, arith, length-append}
 use Rattle.selfid.specs.declared.packet.Packet.{Packet}
 use Rattle.selfid.specs.Reading.{packet_in}
 use Rattle.selfid.specs.Marks.{ups, downs}
-use Rattle.selfid.specs.Cabling.{node_limit}
-use Rattle.judging.specs.Standing.{packets_taken, inverse_due, under_way, marks_told, finished_nodes, whole}
+use Rattle.judging.specs.Standing.{packets_taken, inverse_due, whole}
 use Rattle.judging.specs.Beginnings.{Begins}
 use Rattle.judging.specs.Tests.{packet_tests, Tested, Verdict}
 use Rattle.judging.proofs.Rebuilt.{quadlets_in_range}
-use Rattle.judging.proofs.Recognition.{finished_in_range}
 use Rattle.survey.specs.declared.gathering.Gathering.{Gathering}
 use Rattle.survey.specs.declared.tree.Tree.{Tree}
 use Rattle.survey.specs.Judging.{judged}
 use Rattle.survey.specs.Hearing.{heard, CanHear}
-use Rattle.survey.specs.Tallies.{HasRoom, CountsTally, TurnTallies, MarksTally, FieldsTally, RowsTally, EndsTally}
-use Rattle.survey.proofs.Telling.{ups_padded, downs_padded}
-use Rattle.survey.proofs.Tallying.{Tally, MayCome, loose_few, can_hear}
+use Rattle.survey.specs.Tallies.{CountsTally, TurnTallies, MarksTally, FieldsTally, RowsTally, EndsTally}
+use Rattle.survey.proofs.Tallying.{Tally, MayCome, can_hear}
 use Rattle.survey.proofs.Taking.{hears, may_come, packet_taken, inverse_taken}
 use Rattle.survey.proofs.Verdicts.{packet_tested}
 
@@ -25,18 +22,11 @@ quadlets_of g = g.quadlets.items
 
 module _ (g : Gathering) where
   pub tally_of : Tally (packets_taken (quadlets_of g)) g.tree
-  tally_of = record { rows_long = g.has_room.0; ends_long = g.has_room.1; counts = g.counts_tally; turn = g.turn_tallies; marks = g.marks_tally; fields = g.fields_tally; rows = g.rows_tally; ends = g.ends_tally }
-
-  pub counts_in_range : (g.tree.finished ≤ node_limit) × (g.tree.loose ≤ node_limit)
-  counts_in_range =
-      let f = finished_in_range (quadlets_of g) g.begins in
-      (omega (arith, f, g.counts_tally.0), omega (arith, f, g.counts_tally.1, loose_few (finished_nodes (packets_taken (quadlets_of g)))))
+  tally_of = record { counts = g.counts_tally; turn = g.turn_tallies; marks = g.marks_tally; fields = g.fields_tally; rows = g.rows_tally; ends = g.ends_tally }
 
   pub tested_of : (q : ℕ) → whole (quadlets_of g) ≡ false → inverse_due (quadlets_of g) ≡ false → Tested packet_tests (quadlets_of g) q (judged g.tree q)
   tested_of q w d =
-      let marks = ap (λ (t : Tree). t.marks) g.marks_tally in
-      packet_tested (quadlets_of g) q g.tree g.begins w d g.counts_tally.0 g.counts_tally.1 g.counts_tally.2
-      (ap ups marks ∙ ups_padded (marks_told (under_way (packets_taken (quadlets_of g)))) _) (ap downs marks ∙ downs_padded (marks_told (under_way (packets_taken (quadlets_of g)))) _)
+      packet_tested (quadlets_of g) q g.tree g.begins w d g.counts_tally.0 g.counts_tally.1 g.counts_tally.2 (ap ups g.marks_tally) (ap downs g.marks_tally)
 
 -- What must hold of a gathering that has taken qs, with the tree t.
 abbrev pub Facts : List ℕ → Tree → Type 0
@@ -44,7 +34,6 @@ Facts qs t =
     let ps = packets_taken qs in
     record {
       begins : Begins qs;
-      has_room : HasRoom t;
       counts_tally : CountsTally ps t;
       turn_tallies : TurnTallies ps t;
       marks_tally : MarksTally ps t;
@@ -57,7 +46,6 @@ pub facts_from : (qs : List ℕ) (t : Tree) → Begins qs → Tally (packets_tak
 facts_from qs t b k =
     record {
       begins = b;
-      has_room = (k.rows_long, k.ends_long);
       counts_tally = k.counts;
       turn_tallies = k.turn;
       marks_tally = k.marks;

@@ -1,6 +1,7 @@
 //! What a record answers. No question changes it.
 
-ghost use Rattle.std.specs.Prelude.{◌≡◌};
+ghost use Rattle.std.specs.Prelude.{◌≡◌, ◌≤◌};
+ghost use Rattle.selfid.specs.Cabling.{node_limit};
 ghost use Rattle.survey.specs.Views.{gathered, nothing_offered, shown};
 ghost use Rattle.survey.specs.Questions.{node_count, void_cause, found_at, row_asked, node_asked, marks_on, marks_asked, port_asked};
 
@@ -30,16 +31,20 @@ impl Record {
     pub fn void_cause(&self) -> Option<Cause>
         ensures is_the_cause { result ≡ void_cause (shown self.now) }
     {
-        self.cause
+        match &self.bus {
+            Ok(_) => None,
+            Err(cause) => Some(*cause),
+        }
     }
 
     // How many nodes the bus has: none if the record is void.
     pub fn node_count(&self) -> usize
         ensures is_the_count { result ≡ node_count (shown self.now) }
+        ensures fits_a_bus { result ≤ node_limit }
     {
-        match self.void_cause() {
-            Some(_) => 0,
-            None => self.settled.tree.finished,
+        match &self.bus {
+            Ok(rows) => rows.len(),
+            Err(_) => 0,
         }
     }
 
@@ -47,13 +52,10 @@ impl Record {
     fn row(&self, number: usize) -> Result<Row, QuestionStop>
         ensures is_that_node { result ≡ row_asked (shown self.now) number }
     {
-        if let Some(_) = self.void_cause() {
-            return Err(QuestionStop::Void);
+        match &self.bus {
+            Ok(rows) => found(rows, number),
+            Err(_) => Err(QuestionStop::Void),
         }
-        if number >= self.settled.tree.finished {
-            return Err(QuestionStop::NoneSuch);
-        }
-        Ok(self.settled.tree.rows[number])
     }
 
     // The fields of a node.
@@ -84,6 +86,6 @@ impl Record {
     pub fn reset(self) -> Gathering
         ensures nothing_is_offered { gathered result ≡ nothing_offered }
     {
-        self.settled.reset()
+        Gathering::new()
     }
 }

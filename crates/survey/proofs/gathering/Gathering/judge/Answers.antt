@@ -4,7 +4,7 @@ use Rattle.selfid.specs.Packets.{inverse_of}
 use Rattle.judging.specs.Standing.{packets_taken}
 use Rattle.judging.specs.Tests.{packet_tests, Tested}
 use Rattle.survey.proofs.Taking.{newest_packet}
-use Rattle.survey.proofs.Gatherings.{quadlets_of, counts_in_range, tested_of}
+use Rattle.survey.proofs.Gatherings.{quadlets_of, tested_of}
 use Rattle.survey.proofs.Judgement.{verdict_whole, verdict_inverse, verdict_not_inverse, verdict_packet}
 use Rattle.survey.proofs.gathering.Gathering.judge.Goals as goal
 
@@ -30,11 +30,6 @@ returns-then-inverse_is_due c =
     let newest : get_or c.deref.result.now (c.len.result - 1) 0 ≡ get_or (packets_taken (quadlets_of g)) 0 0 = rw (c.deref.ensures.0, c.len.ensures.value) (sym (newest_packet (quadlets_of g) d)) in
     let e = c.inverse.ensures.is_the_bitwise_inverse ∙ ap inverse_of newest in
     record { is_the_verdict = verdict_not_inverse (quadlets_of g) c.args.quadlet w d (λ f. c.if-quadlet-inverse.false (f ∙ sym e)); tells_what_it_is = tt }
-
-pub judge-requires : goal.judge-requires
-judge-requires c =
-    let g = c.args.self.now in
-    record { counts_are_in_range = counts_in_range g; few_packets_are_told = g.turn_tallies.0 }
 
 pub returns : goal.returns
 returns c =
