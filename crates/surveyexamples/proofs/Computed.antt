@@ -1,6 +1,7 @@
 -- What is seen of some quadlets can be computed, and nothing else is seen.
-use Rattle.std.proofs.Common.{◌≡◌, ℕ, Bool, true, false, cond, eqb, List, [], ◌∷◌, ◌++◌, length, get_or, Some, None, Ok, Err, Option, sym, refl, ap, ◌∙◌, subst, inl, inr, arith}
+use Rattle.std.proofs.Common.{◌≡◌, ℕ, Bool, true, false, cond, eqb, List, [], ◌∷◌, ◌++◌, length, replicate, get_or, Some, None, Ok, Err, Option, sym, refl, ap, ◌∙◌, subst, inl, inr, arith}
 use Rattle.std.proofs.lemmas.Bool.{eqb-true, eqb-false}
+use Rattle.std.proofs.lemmas.List.{length-replicate}
 use Rattle.selfid.specs.Packets.{inverse_of}
 use Rattle.selfid.specs.Reading.{fields_in}
 use Rattle.judging.specs.declared.flaw.Flaw.{Flaw}
@@ -16,6 +17,7 @@ use Rattle.stops.specs.declared.QuadletStop.TheVariants.{Flawed, Spoiled}
 use Rattle.surveyexamples.specs.Stops.{Seen, bus_of, stopped}
 use Rattle.survey.specs.declared.tree.Tree.{Tree}
 use Rattle.survey.specs.Judging.{judged}
+use Rattle.survey.specs.Nodes.{end_at, row_with}
 use Rattle.survey.specs.Views.{gathered_with, nothing_offered, Shown}
 use Rattle.survey.specs.Settling.{SettleCall}
 use Rattle.survey.proofs.Judgement.{verdict_whole, verdict_inverse, verdict_not_inverse, verdict_packet}
@@ -38,10 +40,17 @@ one_answer (t ∷ ts) qs q (Some f) (Some g) (inl h) (inr k) = absurd (k.0 h.1)
 one_answer (t ∷ ts) qs q (Some f) (Some g) (inr h) (inl k) = absurd (h.0 k.1)
 one_answer (t ∷ ts) qs q (Some f) (Some g) (inr h) (inr k) = one_answer ts qs q (Some f) (Some g) h.1 k.1
 
--- A tree with the numbers that these packets, the newest first, leave.
+-- A tree with as many nodes and loose ends as these packets, the newest first, leave, and with what the node under way has told: no verdict depends on more.
 abbrev tree_after : List ℕ → Tree
 tree_after ps =
-    record { rows = []; finished = nodes_finished ps; ends = []; loose = loose_count ps; rooted = false; turn = length (under_way ps); fields = fields_in 0; marks = marks_told (under_way ps) }
+    record {
+      rows = record { items = replicate (nodes_finished ps) (row_with (fields_in 0) []) };
+      ends = record { items = replicate (loose_count ps) (end_at 0 0) };
+      rooted = false;
+      turn = length (under_way ps);
+      fields = fields_in 0;
+      marks = record { items = marks_told (under_way ps) };
+    }
 
 -- The verdict on q after qs, computed.
 module _ (qs : List ℕ) (q : ℕ) where
@@ -67,7 +76,7 @@ module _ (qs : List ℕ) (q : ℕ) where
 
     due_case : (d : Bool) → whole qs ≡ false → inverse_due qs ≡ d → Verdict qs q (cond d on_inverse on_packet)
     due_case true w d = inverse_case (eqb q due) w d refl
-    due_case false w d = verdict_packet qs q begins w d on_packet (packet_tested qs q (tree_after (packets_taken qs)) begins w d refl refl refl refl refl)
+    due_case false w d = verdict_packet qs q begins w d on_packet (packet_tested qs q (tree_after (packets_taken qs)) begins w d (length-replicate (nodes_finished (packets_taken qs)) _) (length-replicate (loose_count (packets_taken qs)) _) refl refl refl)
 
     whole_case : (w : Bool) → whole qs ≡ w → Verdict qs q (cond w (Some AlreadyWhole) unless_whole)
     whole_case true w = verdict_whole qs q begins w
