@@ -3,4 +3,3 @@ pub mod Pieces
 pub mod Values
 pub mod Passing
 pub mod Firsts
-pub mod Waiting
