@@ -48,12 +48,7 @@ impl<'a> Reader<'a> {
         ensures leaves_the_lines_behind_it { lines_left self.new ≡ behind_reset (lines_left self.old) }
         ensures counts_the_lines_passed { lines_before self.new + length (lines_left self.new) ≡ lines_before self.old + length (lines_left self.old) }
     {
-        while let Some(line) = self.next() {
-            if let Ok(Token::Reset { .. }) = line {
-                return true;
-            }
-        }
-        false
+        self.any(|line| matches!(line, Ok(Token::Reset { .. })))
     }
 }
 
