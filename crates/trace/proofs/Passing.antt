@@ -1,6 +1,7 @@
 -- What stays the same while a reader passes over lines, and that fewer are left behind a reset.
-use Rattle.std.proofs.Common.{◌≡◌, ◌+◌, ◌<◌, Bool, true, false, cond, ℕ, List, [], ◌∷◌, length, Option, MatchOption, Some, None, Result, Ok, Err, rules, sym, refl, ◌∙◌, subst, arith}
+use Rattle.std.proofs.Common.{◌≡◌, ◌+◌, ◌<◌, Bool, true, false, ℕ, List, [], ◌∷◌, length, Option, MatchOption, Some, None, Result, Ok, Err, rules, sym, refl, ◌∙◌, subst, arith}
 use Rattle.std.proofs.lemmas.Bool.{false≢true}
+use Rattle.std.proofs.lemmas.Grind.{common_steps}
 use Rattle.std.specs.Iterator.{Yields, ChecksAny}
 use Rattle.std.specs.List.{FoldsTo}
 use denote.Param.Members.{Mut, Called}
@@ -8,7 +9,6 @@ use Rattle.trace.specs.declared.reader.Reader.{Reader}
 use Rattle.trace.specs.declared.token.Token.{Token}
 use Rattle.trace.specs.declared.token.Token.TheVariants.{Note, Reset, Words}
 use Rattle.trace.specs.declared.token.TraceStop.{TraceStop}
-use Rattle.trace.specs.Lines.{is_reset_line}
 use Rattle.trace.specs.Reading.{ReadsOne, has_reset, behind_reset, lines_left, lines_before}
 use Rattle.trace.specs.Recorded.{waiting_in, ending_in}
 
@@ -32,11 +32,7 @@ SameRun a b =
 -- A program that passes from reset to reset comes to the end.
 pub fewer_behind_reset : (ls : List (List ℕ)) → has_reset ls ≡ true → length (behind_reset ls) < length ls
 fewer_behind_reset [] e = absurd (false≢true e)
-fewer_behind_reset (l ∷ ls) e = fewer_at l ls (is_reset_line l) e (fewer_behind_reset ls)
-  where
-    fewer_at : (l : List ℕ) (ls : List (List ℕ)) (t : Bool) → cond t true (has_reset ls) ≡ true → (has_reset ls ≡ true → length (behind_reset ls) < length ls) → length (cond t ls (behind_reset ls)) < length (l ∷ ls)
-    fewer_at l ls true e ih = omega arith
-    fewer_at l ls false e ih = omega (arith, ih e)
+fewer_behind_reset (l ∷ ls) e = grind (arith, common_steps, fewer_behind_reset ls)
 
 -- What a search for a reset from s ends with: whether there is one, and the reader behind it.
 pub record Passes (s u : Reader) (there : Bool) : Type 0 where

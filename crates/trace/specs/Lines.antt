@@ -1,6 +1,6 @@
 -- The lines of a trace, what kind of line each is, and the words of a words line.
 use Rattle.std.specs.Prelude.{ℕ, ◌+◌, ◌-◌, ◌*◌, Bool, true, cond, ◌&&◌, List, [], ◌∷◌, map, length, is_some, Some, None, codes, Option, ◌==◌, nat_le, nat_lt}
-use Rattle.std.specs.List.{list_all, onto_first, slice_split}
+use Rattle.std.specs.List.{fold, list_all, onto_first, slice_split}
 use Rattle.std.specs.Option.{unwrap_or}
 use Rattle.std.specs.Str.{bytes_eq}
 
@@ -26,14 +26,13 @@ digit_of byte =
 abbrev pub is_digit : ℕ → Bool
 is_digit byte = is_some (digit_of byte)
 
--- The value of hexadecimal digits behind others of this value.
-abbrev pub value_from : ℕ → List ℕ → ℕ
-value_from before [] = before
-value_from before (byte ∷ bytes) = value_from (before * 16 + unwrap_or (digit_of byte) 0) bytes
+-- The value of hexadecimal digits of this value with one more behind them.
+abbrev pub and_digit : ℕ → ℕ → ℕ
+and_digit before byte = before * 16 + unwrap_or (digit_of byte) 0
 
 -- The value of hexadecimal digits, the highest first.
 abbrev pub word_value : List ℕ → ℕ
-word_value = value_from 0
+word_value bytes = fold and_digit 0 bytes
 
 -- A word is eight hexadecimal digits.
 abbrev pub is_word : List ℕ → Bool

@@ -8,6 +8,7 @@ fn digit_value(byte: u8) -> Option<u8>
     ensures is_the_value_of_a_digit { result ≡ digit_of byte }
     ensures is_below_16 { IfSome result (λ d. d < 16) }
 {
+    // A trace is text, so each byte is matched as a char, and either case of a digit by its own letters.
     match byte as char {
         '0'..='9' => Some(byte - b'0'),
         'A'..='F' => Some(byte - b'A' + 10),
