@@ -1,16 +1,70 @@
 //! One line of text under construction, in a memory of fixed length.
 
-ghost use Rattle.std.specs.Prelude.{◌≤◌};
-ghost use Rattle.print.specs.Limits.{line_limit};
+ghost use Rattle.std.specs.Prelude.{◌≡◌, ◌+◌, ◌≤◌, [], ◌++◌, length, IfOk, decimal};
+ghost use Rattle.print.specs.Limits.{line_limit, digit_limit};
+ghost use Rattle.print.specs.Placing.{placed, answer, IsWritten};
+ghost use Rattle.print.specs.Written.{written};
 
 use crate::LINE_LIMIT;
+use crate::stop::LineStop;
+use arrayvec::ArrayVec;
+use itoa::Buffer;
 
-mod writing;
-
-// It holds the first `len` bytes. What lies behind them means nothing.
 #[derive(Drop)]
 pub(crate) struct Line {
-    bytes: [u8; LINE_LIMIT],
-    len: usize,
-    ghost within_the_room: { len ≤ line_limit },
+    bytes: ArrayVec<u8, LINE_LIMIT>,
+}
+
+impl Line {
+    pub(crate) fn new() -> Line
+        ensures is_empty { written result ≡ [] }
+        ensures has_length_0 { length (written result) ≡ 0 }
+    {
+        Line {
+            bytes: ArrayVec::new(),
+        }
+    }
+
+    pub(crate) fn push_text(&mut self, text: &[u8])
+        requires there_is_room { length (written self.old) + length text.now ≤ line_limit }
+        ensures adds_the_text { written self.new ≡ written self.old ++ text.now }
+        ensures grows_by_its_length { length (written self.new) ≡ length (written self.old) + length text.now }
+    {
+        self.bytes.try_extend_from_slice(text).unwrap();
+    }
+
+    fn push_number(&mut self, number: usize)
+        requires there_is_room { length (written self.old) + digit_limit ≤ line_limit }
+        ensures adds_its_digits { written self.new ≡ written self.old ++ decimal number }
+        ensures grows_by_its_digits_at_most { length (written self.new) ≤ length (written self.old) + digit_limit }
+    {
+        let mut digits = Buffer::new();
+        self.push_text(digits.format(number).as_bytes());
+    }
+
+    // Adds a text and then a number.
+    pub(crate) fn push_labelled(&mut self, label: &[u8], number: usize)
+        requires there_is_room { length (written self.old) + length label.now + digit_limit ≤ line_limit }
+        ensures adds_the_label_and_the_digits { written self.new ≡ written self.old ++ label.now ++ decimal number }
+        ensures grows_by_the_label_and_the_digits_at_most { length (written self.new) ≤ length (written self.old) + length label.now + digit_limit }
+    {
+        self.push_text(label);
+        self.push_number(number);
+    }
+
+    // Writes the line to the front of the buffer and answers its length, or leaves a buffer that is too short as it is.
+    pub(crate) fn place(&self, buffer: &mut [u8]) -> Result<usize, LineStop>
+        ensures answers_the_length_if_there_is_room { result ≡ answer (written self.now) buffer.old }
+        ensures writes_the_line_and_keeps_the_rest { buffer.new ≡ placed (written self.now) buffer.old }
+        ensures answers_a_length_that_fits { IfOk result (λ n. n ≤ length buffer.old) }
+        ensures has_room_enough_in_the_line_limit { line_limit ≤ length buffer.old → IsWritten result }
+    {
+        let bytes = self.bytes.as_slice();
+        let len = bytes.len();
+        if buffer.len() < len {
+            return Err(LineStop::TooShort);
+        }
+        buffer[..len].copy_from_slice(bytes);
+        Ok(len)
+    }
 }
