@@ -1,8 +1,8 @@
 //! One line of text under construction, in a memory of fixed length.
 
-ghost use Rattle.std.specs.Prelude.{◌≡◌, ◌+◌, ◌≤◌, [], ◌++◌, length, IfOk, decimal};
+ghost use Rattle.std.specs.Prelude.{◌≡◌, ◌+◌, ◌≤◌, [], ◌++◌, length, Ok, decimal};
 ghost use Rattle.print.specs.Limits.{line_limit, digit_limit};
-ghost use Rattle.print.specs.Placing.{placed, answer, IsWritten};
+ghost use Rattle.print.specs.Print.{Placed};
 ghost use Rattle.print.specs.Written.{written};
 
 use crate::LINE_LIMIT;
@@ -54,10 +54,7 @@ impl Line {
 
     // Writes the line to the front of the buffer and answers its length, or leaves a buffer that is too short as it is.
     pub(crate) fn place(&self, buffer: &mut [u8]) -> Result<usize, LineStop>
-        ensures answers_the_length_if_there_is_room { result ≡ answer (written self.now) buffer.old }
-        ensures writes_the_line_and_keeps_the_rest { buffer.new ≡ placed (written self.now) buffer.old }
-        ensures answers_a_length_that_fits { IfOk result (λ n. n ≤ length buffer.old) }
-        ensures has_room_enough_in_the_line_limit { line_limit ≤ length buffer.old → IsWritten result }
+        ensures places_the_line { Placed (Ok (written self.now)) buffer.old buffer.new result }
     {
         let bytes = self.bytes.as_slice();
         let len = bytes.len();
