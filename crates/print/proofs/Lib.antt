@@ -1,3 +1,2 @@
-pub mod Letters
 pub mod Printing
 pub mod Examples
