@@ -18,6 +18,7 @@ ghost use Rattle.survey.specs.Views.{shown};
 use crate::lines::{input_stop_line, trace_stop_line};
 use crate::printed::print_line;
 use crate::stop::LineStop;
+use source::SourceStop;
 use survey::record::Record;
 
 // No line has more bytes, so that a buffer of this length is never too short.
@@ -45,17 +46,16 @@ pub fn write_line(
     print_line(record, reset, line)?.place(buffer)
 }
 
-// Writes the line of a trace that stopped to the front of the buffer, and answers its length: the number of the reset, from 1,
-// the number of the stop, and the line of the trace where it stopped. A buffer that is too short is left as it is.
+// Writes the line of a trace that stopped to the front of the buffer, and answers its length. It is told the number of the reset,
+// from 1, and the stop, whose place is the line of the trace. A buffer that is too short is left as it is.
 pub fn write_trace_stop_line(
     reset: usize,
-    number: u8,
-    place: usize,
+    stop: SourceStop,
     buffer: &mut [u8],
 ) -> Result<usize, LineStop>
-    ensures places_that_line { Placed (Ok (trace_stop_line reset number place)) buffer.old buffer.new result }
+    ensures places_that_line { Placed (Ok (trace_stop_line reset stop.number stop.place)) buffer.old buffer.new result }
 {
-    trace_stop_line(reset, number, place).place(buffer)
+    trace_stop_line(reset, stop).place(buffer)
 }
 
 // Writes the line of an input that is too long to the front of the buffer, and answers its length.

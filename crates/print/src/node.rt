@@ -61,8 +61,8 @@ pub(crate) fn node_line(number: usize, fields: Fields, marks: &[Mark; PORT_LIMIT
     line.push_labelled(b"node ", number);
     line.push_text(b" ");
     line.push_text(speed_text(fields.speed));
-    line.push_labelled(b" gap ", fields.gap as usize);
-    line.push_labelled(b" power ", fields.power as usize);
+    line.push_labelled(b" gap ", usize::from(fields.gap));
+    line.push_labelled(b" power ", usize::from(fields.power));
     line.push_text(b" ");
     line.push_text(&flags_text(fields));
     line.push_text(b" ");

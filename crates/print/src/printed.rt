@@ -16,7 +16,7 @@ fn first_line(record: &Record, reset: usize) -> Line
     ensures is_the_first_line { written result ≡ first_line reset (shown «record».now) }
 {
     match record.void_cause() {
-        Some(cause) => void_line(reset, cause.number(), cause.place()),
+        Some(cause) => void_line(reset, cause),
         None => reset_line(reset, record.node_count()),
     }
 }
