@@ -14,6 +14,9 @@ mod printing;
 // A trace has at most so many bytes.
 const TRACE_LIMIT: usize = 65_536;
 
+// One byte more than a trace has shows an input that is too long.
+const ROOM: usize = TRACE_LIMIT + 1;
+
 // Reads until the room is full or the input ends, and answers how many bytes came.
 fn read_input<R: Read>(input: &mut R, room: &mut [u8]) -> io::Result<usize>
     ensures count_is_within_the_room { IfOk result (λ n. n ≤ length room.new) }
@@ -30,8 +33,7 @@ fn read_input<R: Read>(input: &mut R, room: &mut [u8]) -> io::Result<usize>
 }
 
 fn main(rt: HostRuntime) -> io::Result<()> {
-    // One byte more than a trace has shows an input that is too long.
-    let mut room = [0u8; 65_537];
+    let mut room = [0u8; ROOM];
     let mut output = rt.stdout();
     let count = read_input(&mut rt.stdin(), &mut room)?;
     if count > TRACE_LIMIT {

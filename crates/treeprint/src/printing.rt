@@ -28,10 +28,8 @@ fn put_line<W: Write>(
     requires a_line_was_written { IsWritten written }
     requires it_fits { IfOk written (λ n. n ≤ length buffer.now) }
 {
-    match written {
-        Ok(length) => output.write_all(&buffer[..length]),
-        Err(_) => unreachable(),
-    }
+    let length = written.unwrap();
+    output.write_all(&buffer[..length])
 }
 
 // Prints that the input is too long.
@@ -44,7 +42,7 @@ pub(crate) fn print_input_stop<W: Write>(output: &mut W) -> io::Result<()> {
 // Prints where the trace stopped behind this reset.
 fn print_trace_stop<W: Write>(output: &mut W, reset: usize, stop: SourceStop) -> io::Result<()> {
     let mut buffer = [0; LINE_LIMIT];
-    let written = write_trace_stop_line(reset, stop.number, stop.place, &mut buffer);
+    let written = write_trace_stop_line(reset, stop, &mut buffer);
     put_line(output, &buffer, written)
 }
 
@@ -53,11 +51,8 @@ fn source_stop(filled: Result<usize, FillStop>) -> Option<SourceStop>
     ensures is_that_stop { result ≡ stop_of filled }
 {
     match filled {
-        Ok(_) => None,
-        Err(stop) => match stop {
-            FillStop::Survey(_, _) => None,
-            FillStop::Source(_, stop) => Some(stop),
-        },
+        Err(FillStop::Source(_, stop)) => Some(stop),
+        Ok(_) | Err(FillStop::Survey(_, _)) => None,
     }
 }
 
