@@ -15,6 +15,8 @@ pub(crate) struct Line {
     bytes: ArrayVec<u8, LINE_LIMIT>,
 }
 
+// A line is put together piece by piece. `write!` would be one call, but std says what it wrote only where it answers `Ok`, and
+// nowhere that it does, so that a line could fail.
 impl Line {
     pub(crate) fn new() -> Line
         ensures is_empty { written result ≡ [] }
@@ -33,15 +35,6 @@ impl Line {
         self.bytes.try_extend_from_slice(text).unwrap();
     }
 
-    fn push_number(&mut self, number: usize)
-        requires there_is_room { length (written self.old) + digit_limit ≤ line_limit }
-        ensures adds_its_digits { written self.new ≡ written self.old ++ decimal number }
-        ensures grows_by_its_digits_at_most { length (written self.new) ≤ length (written self.old) + digit_limit }
-    {
-        let mut digits = Buffer::new();
-        self.push_text(digits.format(number).as_bytes());
-    }
-
     // Adds a text and then a number.
     pub(crate) fn push_labelled(&mut self, label: &[u8], number: usize)
         requires there_is_room { length (written self.old) + length label.now + digit_limit ≤ line_limit }
@@ -49,7 +42,7 @@ impl Line {
         ensures grows_by_the_label_and_the_digits_at_most { length (written self.new) ≤ length (written self.old) + length label.now + digit_limit }
     {
         self.push_text(label);
-        self.push_number(number);
+        self.push_text(Buffer::new().format(number).as_bytes());
     }
 
     // Writes the line to the front of the buffer and answers its length, or leaves a buffer that is too short as it is.
