@@ -9,6 +9,7 @@ use selfid::mark::Mark;
 use selfid::node::{Fields, PORT_LIMIT};
 use selfid::speed::Speed;
 
+// Speeds, flags and marks become bytes here, and have no `Display`, which would have to go through `write!`: see `Line`.
 fn speed_text(speed: Speed) -> &'static [u8; 4]
     ensures is_its_text { result.now ≡ speed_text speed }
 {

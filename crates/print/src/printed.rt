@@ -31,7 +31,8 @@ fn line_of_node(record: &Record, number: usize) -> Result<Line, LineStop>
     Ok(node_line(number, fields, &marks))
 }
 
-// The line with this number, counted from 0, if there is one.
+// The line with this number, counted from 0, if there is one. (A struct for the record and the number of its reset would spare
+// two parameters here, and make each clause name both through it.)
 pub(crate) fn print_line(record: &Record, reset: usize, number: usize) -> Result<Line, LineStop>
     ensures is_that_line { written_if result ≡ line_at (print_lines reset (shown «record».now)) number }
 {

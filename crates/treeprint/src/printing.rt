@@ -17,7 +17,8 @@ use survey::record::Record;
 use trace::reader::Reader;
 use trace::recorded::TraceSource;
 
-// Prints that the input is too long.
+// Prints that the input is too long. (This and two others lend a buffer and put out its front. One function over a closure that
+// writes the line would have to say what the closure answers, which is longer than these three lines.)
 pub(crate) fn print_input_stop<W: Write>(output: &mut W) -> io::Result<()> {
     let mut buffer = [0; LINE_LIMIT];
     let length = write_input_stop_line(&mut buffer).unwrap();
