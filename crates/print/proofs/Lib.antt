@@ -1,4 +1,2 @@
-pub mod Digits
-pub mod Letters
 pub mod Printing
 pub mod Examples

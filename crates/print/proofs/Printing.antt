@@ -1,68 +1,41 @@
 -- The lines of the nodes.
 use Rattle.std.proofs.Common.{◌≡◌, ℕ, zero, suc, ◌+◌, ◌≤◌, List, [], ◌∷◌, length, take, Some, None, Ok, Err, Option, Result, sym, refl, ap, ◌∙◌, arith}
 use Rattle.std.proofs.lemmas.List.{length-take}
-use Rattle.selfid.specs.declared.mark.Mark.{Mark}
-use Rattle.selfid.specs.declared.node.Fields.{Fields}
 use Rattle.stops.specs.declared.Cause.{Cause}
 use Rattle.stops.specs.declared.QuestionStop.{QuestionStop}
 use Rattle.survey.specs.declared.row.Row.{Row}
 use Rattle.survey.specs.declared.record.Record.{Record}
 use Rattle.survey.specs.Views.{Shown, bus, void, shown, shown_with}
-use Rattle.survey.specs.Questions.{found_at, fields_found, row_asked, node_asked, marks_on, marks_found, marks_asked, node_count}
+use Rattle.survey.specs.Questions.{found_at, row_asked, marks_on, node_count}
 use Rattle.print.specs.declared.stop.LineStop.{LineStop}
 use Rattle.print.specs.declared.stop.LineStop.TheVariants.{NoSuchLine}
 use Rattle.print.specs.Lines.{node_line}
 use Rattle.print.specs.Print.{node_lines, node_lines_from, line_at}
 
-module _ {X Y : Type 0} where
-  -- An answer is not a refusal.
-  ok_err : {x : X} {y : Y} → ◌≡◌ {A = Result X Y} (Ok x) (Err y) → ⊥
-  ok_err e = let bad : ◌≡◌ {A = ℕ} 0 1 = ap {A = Result X Y} (λ o. elim o [ Ok z ↦ 0 | Err z ↦ 1 ]) e in omega (arith, bad)
+-- The line of node i, told what asking for its row gives.
+abbrev pub row_line : (i : ℕ) → Result Row QuestionStop → Result (List ℕ) LineStop
+row_line i (Ok r) = Ok (node_line i r.fields (marks_on r.ports))
+row_line i (Err k) = Err NoSuchLine
 
--- The line of node i of these, the first of which has number n.
-line_there : (rs : List Row) (n i : ℕ) (x : Fields) (ms : List Mark) → Ok x ≡ fields_found (found_at rs i) → Ok ms ≡ marks_found (found_at rs i) → Ok (node_line (n + i) x ms) ≡ line_at (node_lines_from n rs) i
-line_there [] n i x ms e m = absurd (ok_err e)
-line_there (r ∷ rs) n zero x ms e m =
-    let f : x ≡ r.fields = ap {A = Result Fields QuestionStop} (λ o. elim o [ Ok z ↦ z | Err z ↦ x ]) e in
-    let g : ms ≡ marks_on r.ports = ap {A = Result (List Mark) QuestionStop} (λ o. elim o [ Ok z ↦ z | Err z ↦ ms ]) m in
+-- Line i of these, the first of which is that of node n, is the line of node n + i.
+line_from : (rs : List Row) (n i : ℕ) → line_at (node_lines_from n rs) i ≡ row_line (n + i) (found_at rs i)
+line_from [] n i = refl
+line_from (r ∷ rs) n zero =
     let k : n + 0 ≡ n = omega arith in
-    rw (k, f, g) refl
-line_there (r ∷ rs) n (suc i) x ms e m =
+    rw k refl
+line_from (r ∷ rs) n (suc i) =
     let k : n + suc i ≡ suc n + i = omega arith in
-    rw k (line_there rs (suc n) i x ms e m)
+    rw k (line_from rs (suc n) i)
 
-pub node_there : (s : Shown) (i : ℕ) (x : Fields) (ms : List Mark) → Ok x ≡ node_asked s i → Ok ms ≡ marks_asked s i → Ok (node_line i x ms) ≡ line_at (node_lines s) i
-node_there (bus rs) i x ms e m =
+pub line_of_row : (s : Shown) (i : ℕ) → line_at (node_lines s) i ≡ row_line i (row_asked s i)
+line_of_row (bus rs) i =
     let k : i ≡ 0 + i = omega arith in
-    ap (λ (j : ℕ). Ok (node_line j x ms)) k ∙ line_there rs 0 i x ms e m
-node_there (void k) i x ms e m = absurd (ok_err e)
-
-no_line : (rs : List Row) (n i : ℕ) (k : QuestionStop) → Err k ≡ found_at rs i → Err NoSuchLine ≡ line_at (node_lines_from n rs) i
-no_line [] n i k e = refl
-no_line (r ∷ rs) n zero k e = absurd (ok_err (sym e))
-no_line (r ∷ rs) n (suc i) k e = no_line rs (suc n) i k e
-
-no_row : (s : Shown) (i : ℕ) (k : QuestionStop) → Err k ≡ row_asked s i → Err NoSuchLine ≡ line_at (node_lines s) i
-no_row (bus rs) i k e = no_line rs 0 i k e
-no_row (void j) i k e = refl
-
-pub no_fields : (s : Shown) (i : ℕ) (k : QuestionStop) → Err k ≡ node_asked s i → Err NoSuchLine ≡ line_at (node_lines s) i
-no_fields s i k e = no_row s i k (go (row_asked s i) e)
-  where
-    go : (q : Result Row QuestionStop) → Err k ≡ fields_found q → Err k ≡ q
-    go (Ok r) f = absurd (ok_err (sym f))
-    go (Err j) f = ap {A = Result Fields QuestionStop} (λ o. elim o [ Ok z ↦ Err k | Err z ↦ Err z ]) f
-
-pub no_marks : (s : Shown) (i : ℕ) (k : QuestionStop) → Err k ≡ marks_asked s i → Err NoSuchLine ≡ line_at (node_lines s) i
-no_marks s i k e = no_row s i k (go (row_asked s i) e)
-  where
-    go : (q : Result Row QuestionStop) → Err k ≡ marks_found q → Err k ≡ q
-    go (Ok r) f = absurd (ok_err (sym f))
-    go (Err j) f = ap {A = Result (List Mark) QuestionStop} (λ o. elim o [ Ok z ↦ Err k | Err z ↦ Err z ]) f
+    line_from rs 0 i ∙ ap (λ (j : ℕ). row_line j (found_at rs i)) (sym k)
+line_of_row (void k) i = refl
 
 pub no_more_lines : (ls : List (List ℕ)) (j : ℕ) (k : LineStop) → Err k ≡ line_at ls j → length ls ≤ j
 no_more_lines [] j k e = omega arith
-no_more_lines (l ∷ ls) zero k e = absurd (ok_err (sym e))
+no_more_lines (l ∷ ls) zero k e = cc
 no_more_lines (l ∷ ls) (suc j) k e = omega (arith, no_more_lines ls j k e)
 
 -- As many lines as nodes, and they can be counted.

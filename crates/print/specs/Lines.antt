@@ -49,13 +49,17 @@ node_line number x ms =
     ++ codes " " ++ map mark_letter ms
     ++ line_feed
 
--- The one line of a void record, as "reset 2 void 10 at 4": the number of the reset, of the stop, and the place of the stop.
-abbrev pub void_line : (reset number place : ℕ) → List ℕ
-void_line reset number place = codes "reset " ++ decimal reset ++ codes " void " ++ decimal number ++ codes " at " ++ decimal place ++ line_feed
+-- The line of a reset and a stop: the number of the reset, of the stop, and the place of the stop, the last two behind these labels.
+abbrev pub stop_line : (label place_label : List ℕ) → (reset number place : ℕ) → List ℕ
+stop_line label place_label reset number place = codes "reset " ++ decimal reset ++ label ++ decimal number ++ place_label ++ decimal place ++ line_feed
 
--- The line of a trace that stopped, as "reset 2 trace 21 at line 7": the number of the reset, of the stop, and of the line of the trace.
+-- The one line of a void record, as "reset 2 void 10 at 4".
+abbrev pub void_line : (reset number place : ℕ) → List ℕ
+void_line reset number place = stop_line (codes " void ") (codes " at ") reset number place
+
+-- The line of a trace that stopped, as "reset 2 trace 21 at line 7": the place is the line of the trace.
 abbrev pub trace_stop_line : (reset number place : ℕ) → List ℕ
-trace_stop_line reset number place = codes "reset " ++ decimal reset ++ codes " trace " ++ decimal number ++ codes " at line " ++ decimal place ++ line_feed
+trace_stop_line reset number place = stop_line (codes " trace ") (codes " at line ") reset number place
 
 -- The line of an input that is too long, which is stop 23.
 abbrev pub input_stop_line : List ℕ

@@ -1,5 +1,5 @@
 -- How a line is placed in a buffer.
-use Rattle.std.specs.Prelude.{ℕ, cond, List, ◌++◌, length, drop, Ok, Err, Result, nat_le}
+use Rattle.std.specs.Prelude.{ℕ, cond, List, ◌++◌, length, drop, Ok, Err, Result, nat_le, IsOk}
 use Rattle.print.specs.declared.stop.LineStop.{LineStop}
 use Rattle.print.specs.declared.stop.LineStop.TheVariants.{TooShort}
 
@@ -13,5 +13,4 @@ answer line buffer = cond (nat_le (length line) (length buffer)) (Ok (length lin
 
 -- A line was written.
 abbrev pub IsWritten : Result ℕ LineStop → Type 0
-IsWritten (Ok n) = Unit {0}
-IsWritten (Err stop) = ⊥
+IsWritten answered = IsOk answered

@@ -1,13 +1,14 @@
 -- The print: the lines of a settled record, and what asking for one of them gives.
-use Rattle.std.specs.Prelude.{ℕ, suc, List, [], ◌∷◌, length, Ok, Err, Result}
+use Rattle.std.specs.Prelude.{◌≡◌, ℕ, suc, ◌≤◌, List, [], ◌∷◌, length, Ok, Err, Result, IfOk, IsOk}
 use Rattle.stops.specs.Numbers.{cause_number, cause_place}
 use Rattle.survey.specs.declared.row.Row.{Row}
 use Rattle.survey.specs.Views.{Shown, bus, void}
 use Rattle.survey.specs.Questions.{marks_on}
 use Rattle.print.specs.declared.stop.LineStop.{LineStop}
 use Rattle.print.specs.declared.stop.LineStop.TheVariants.{NoSuchLine}
+use Rattle.print.specs.Limits.{line_limit}
 use Rattle.print.specs.Lines.{reset_line, node_line, void_line}
-use Rattle.print.specs.Placing.{placed, answer}
+use Rattle.print.specs.Placing.{placed, answer, IsWritten}
 
 -- The first line tells how many nodes a bus has, or why a record is void.
 abbrev pub first_line : (reset : ℕ) → Shown → List ℕ
@@ -42,3 +43,10 @@ answer_if (Err stop) buffer = Err stop
 abbrev pub placed_if : Result (List ℕ) LineStop → (buffer : List ℕ) → List ℕ
 placed_if (Ok line) buffer = placed line buffer
 placed_if (Err stop) buffer = buffer
+
+-- A line, if there is one, was to be written to a buffer: the buffer before and after, and what was answered.
+pub record Placed (line : Result (List ℕ) LineStop) (before after : List ℕ) (answered : Result ℕ LineStop) : Type 0 where
+  pub answers_the_length_if_there_is_a_line_and_room : answered ≡ answer_if line before
+  pub writes_the_line_and_keeps_the_rest : after ≡ placed_if line before
+  pub answers_a_length_that_fits : IfOk answered (λ n. n ≤ length before)
+  pub has_room_enough_in_the_line_limit : line_limit ≤ length before → IsOk line → IsWritten answered

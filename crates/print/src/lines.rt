@@ -1,10 +1,13 @@
 //! The lines that tell of a reset and of a stop.
 
-ghost use Rattle.std.specs.Prelude.{◌≡◌};
-ghost use Rattle.print.specs.Lines.{reset_line, void_line, trace_stop_line, input_stop_line};
+ghost use Rattle.std.specs.Prelude.{◌≡◌, ◌+◌, ◌≤◌, length};
+ghost use Rattle.print.specs.Lines.{reset_line, stop_line, void_line, trace_stop_line, input_stop_line};
 ghost use Rattle.print.specs.Written.{written};
+ghost use Rattle.stops.specs.Numbers.{cause_number, cause_place};
 
 use crate::line::Line;
+use source::SourceStop;
+use stops::Cause;
 
 pub(crate) fn reset_line(reset: usize, nodes: usize) -> Line
     ensures is_the_reset_line { written result ≡ reset_line reset nodes }
@@ -16,26 +19,29 @@ pub(crate) fn reset_line(reset: usize, nodes: usize) -> Line
     line
 }
 
-pub(crate) fn void_line(reset: usize, number: u8, place: usize) -> Line
-    ensures is_the_void_line { written result ≡ void_line reset number place }
+// A stop, its number and its place each behind a label.
+fn stop_line(reset: usize, label: &[u8], number: u8, place_label: &[u8], place: usize) -> Line
+    requires labels_are_short { length label.now + length place_label.now ≤ 20 }
+    ensures is_the_line_of_the_stop { written result ≡ stop_line label.now place_label.now reset number place }
 {
     let mut line = Line::new();
     line.push_labelled(b"reset ", reset);
-    line.push_labelled(b" void ", number as usize);
-    line.push_labelled(b" at ", place);
+    line.push_labelled(label, usize::from(number));
+    line.push_labelled(place_label, place);
     line.push_text(b"\n");
     line
 }
 
-pub(crate) fn trace_stop_line(reset: usize, number: u8, place: usize) -> Line
-    ensures is_the_trace_stop_line { written result ≡ trace_stop_line reset number place }
+pub(crate) fn void_line(reset: usize, cause: Cause) -> Line
+    ensures is_the_void_line { written result ≡ void_line reset (cause_number cause) (cause_place cause) }
 {
-    let mut line = Line::new();
-    line.push_labelled(b"reset ", reset);
-    line.push_labelled(b" trace ", number as usize);
-    line.push_labelled(b" at line ", place);
-    line.push_text(b"\n");
-    line
+    stop_line(reset, b" void ", cause.number(), b" at ", cause.place())
+}
+
+pub(crate) fn trace_stop_line(reset: usize, stop: SourceStop) -> Line
+    ensures is_the_trace_stop_line { written result ≡ trace_stop_line reset stop.number stop.place }
+{
+    stop_line(reset, b" trace ", stop.number, b" at line ", stop.place)
 }
 
 pub(crate) fn input_stop_line() -> Line

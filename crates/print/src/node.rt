@@ -1,7 +1,6 @@
 //! The line that tells of a node.
 
-ghost use Rattle.std.specs.Prelude.{◌≡◌, ◌+◌, ◌≤◌, ◌++◌, map, length};
-ghost use Rattle.print.specs.Limits.{line_limit};
+ghost use Rattle.std.specs.Prelude.{◌≡◌, map};
 ghost use Rattle.print.specs.Lines.{flag_letter, flags_text, mark_letter, speed_text, node_line};
 ghost use Rattle.print.specs.Written.{written};
 
@@ -10,6 +9,7 @@ use selfid::mark::Mark;
 use selfid::node::{Fields, PORT_LIMIT};
 use selfid::speed::Speed;
 
+// Speeds, flags and marks become bytes here, and have no `Display`, which would have to go through `write!`: see `Line`.
 fn speed_text(speed: Speed) -> &'static [u8; 4]
     ensures is_its_text { result.now ≡ speed_text speed }
 {
@@ -48,15 +48,11 @@ fn mark_letter(mark: Mark) -> u8
     }
 }
 
-// Adds a letter for each mark.
-fn push_marks(line: &mut Line, marks: &[Mark])
-    requires there_is_room { length (written line.old) + length marks.now ≤ line_limit }
-    ensures adds_their_letters { written line.new ≡ written line.old ++ map mark_letter marks.now }
-    ensures grows_by_one_for_each { length (written line.new) ≡ length (written line.old) + length marks.now }
+// A letter for each mark.
+fn marks_text(marks: &[Mark; PORT_LIMIT]) -> [u8; PORT_LIMIT]
+    ensures are_their_letters { result ≡ map mark_letter marks.now }
 {
-    for mark in marks {
-        line.push_text(&[mark_letter(*mark)]);
-    }
+    marks.map(mark_letter)
 }
 
 pub(crate) fn node_line(number: usize, fields: Fields, marks: &[Mark; PORT_LIMIT]) -> Line
@@ -66,12 +62,12 @@ pub(crate) fn node_line(number: usize, fields: Fields, marks: &[Mark; PORT_LIMIT
     line.push_labelled(b"node ", number);
     line.push_text(b" ");
     line.push_text(speed_text(fields.speed));
-    line.push_labelled(b" gap ", fields.gap as usize);
-    line.push_labelled(b" power ", fields.power as usize);
+    line.push_labelled(b" gap ", usize::from(fields.gap));
+    line.push_labelled(b" power ", usize::from(fields.power));
     line.push_text(b" ");
     line.push_text(&flags_text(fields));
     line.push_text(b" ");
-    push_marks(&mut line, marks);
+    line.push_text(&marks_text(marks));
     line.push_text(b"\n");
     line
 }

@@ -4,10 +4,10 @@ ghost use Rattle.std.specs.Prelude.{◌≡◌};
 ghost use Rattle.print.specs.Stops.{stop_number};
 
 // The print has no line with this number; or the buffer is shorter than the line.
-#[derive(Clone, Copy)]
+#[derive(Clone, Copy, Debug, PartialEq, Eq)]
 pub enum LineStop {
-    NoSuchLine,
-    TooShort,
+    NoSuchLine = 12,
+    TooShort = 13,
 }
 
 impl LineStop {
@@ -15,9 +15,6 @@ impl LineStop {
     pub fn number(self) -> u8
         ensures is_its_number { result ≡ stop_number self }
     {
-        match self {
-            LineStop::NoSuchLine => 12,
-            LineStop::TooShort => 13,
-        }
+        self as u8
     }
 }

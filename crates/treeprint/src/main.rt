@@ -14,28 +14,30 @@ mod printing;
 // A trace has at most so many bytes.
 const TRACE_LIMIT: usize = 65_536;
 
-// Reads until the room is full or the input ends, and answers how many bytes came.
-fn read_input<R: Read>(input: &mut R, room: &mut [u8]) -> io::Result<usize>
-    ensures count_is_within_the_room { IfOk result (λ n. n ≤ length room.new) }
+// One byte more than a trace has shows an input that is too long.
+const ROOM: usize = TRACE_LIMIT + 1;
+
+// Reads until the room is full or the input ends, and gives what came. It counts for itself, since `read_to_end` of std puts what
+// it reads on the heap, and `read_exact` refuses an input that is shorter than the room.
+fn read_input<'a, R: Read>(input: &mut R, room: &'a mut [u8]) -> io::Result<&'a [u8]>
+    ensures is_within_the_room { IfOk result (λ came. length came.now ≤ length room.old) }
 {
     let mut count = 0;
     while count < room.len() {
-        let came = input.read(&mut room[count..])?;
-        if came == 0 {
-            break;
+        match input.read(&mut room[count..])? {
+            0 => break,
+            came => count += came,
         }
-        count += came;
     }
-    Ok(count)
+    Ok(&room[..count])
 }
 
 fn main(rt: HostRuntime) -> io::Result<()> {
-    // One byte more than a trace has shows an input that is too long.
-    let mut room = [0u8; 65_537];
+    let mut room = [0u8; ROOM];
     let mut output = rt.stdout();
-    let count = read_input(&mut rt.stdin(), &mut room)?;
-    if count > TRACE_LIMIT {
+    let trace = read_input(&mut rt.stdin(), &mut room)?;
+    if trace.len() > TRACE_LIMIT {
         return print_input_stop(&mut output);
     }
-    print_trace(&mut output, &room[..count])
+    print_trace(&mut output, trace)
 }

@@ -1,14 +1,12 @@
 //! The print of a trace.
 
-ghost use Rattle.std.specs.Prelude.{◌≡◌, ◌<◌, ◌≤◌, length, IfOk};
-ghost use Rattle.print.specs.Placing.{IsWritten};
+ghost use Rattle.std.specs.Prelude.{◌≡◌, ◌<◌, length, IfOk};
 ghost use Rattle.print.specs.Print.{print_lines};
 ghost use Rattle.survey.specs.Views.{gathered, nothing_offered, shown};
 ghost use Rattle.trace.specs.Reading.{lines_before, lines_left};
 ghost use Rattle.trace.specs.Recorded.{ending_in, waiting_in};
 ghost use Rattle.treeprint.specs.Surveys.{Surveyed, stop_of};
 
-use print::stop::LineStop;
 use print::{LINE_LIMIT, line_count, write_input_stop_line, write_line, write_trace_stop_line};
 use source::SourceStop;
 use std::io;
@@ -19,33 +17,12 @@ use survey::record::Record;
 use trace::reader::Reader;
 use trace::recorded::TraceSource;
 
-// Puts out the line that was written to the front of the buffer.
-fn put_line<W: Write>(
-    output: &mut W,
-    buffer: &[u8],
-    written: Result<usize, LineStop>,
-) -> io::Result<()>
-    requires a_line_was_written { IsWritten written }
-    requires it_fits { IfOk written (λ n. n ≤ length buffer.now) }
-{
-    match written {
-        Ok(length) => output.write_all(&buffer[..length]),
-        Err(_) => unreachable(),
-    }
-}
-
-// Prints that the input is too long.
+// Prints that the input is too long. (This and two others lend a buffer and put out its front. One function over a closure that
+// writes the line would have to say what the closure answers, which is longer than these three lines.)
 pub(crate) fn print_input_stop<W: Write>(output: &mut W) -> io::Result<()> {
     let mut buffer = [0; LINE_LIMIT];
-    let written = write_input_stop_line(&mut buffer);
-    put_line(output, &buffer, written)
-}
-
-// Prints where the trace stopped behind this reset.
-fn print_trace_stop<W: Write>(output: &mut W, reset: usize, stop: SourceStop) -> io::Result<()> {
-    let mut buffer = [0; LINE_LIMIT];
-    let written = write_trace_stop_line(reset, stop.number, stop.place, &mut buffer);
-    put_line(output, &buffer, written)
+    let length = write_input_stop_line(&mut buffer).unwrap();
+    output.write_all(&buffer[..length])
 }
 
 // The stop of the source that ended a fill, if that ended it.
@@ -53,34 +30,9 @@ fn source_stop(filled: Result<usize, FillStop>) -> Option<SourceStop>
     ensures is_that_stop { result ≡ stop_of filled }
 {
     match filled {
-        Ok(_) => None,
-        Err(stop) => match stop {
-            FillStop::Survey(_, _) => None,
-            FillStop::Source(_, stop) => Some(stop),
-        },
+        Err(FillStop::Source(_, stop)) => Some(stop),
+        Ok(_) | Err(FillStop::Survey(_, _)) => None,
     }
-}
-
-// Prints a line of a record.
-fn print_line<W: Write>(
-    output: &mut W,
-    record: &Record,
-    reset: usize,
-    line: usize,
-) -> io::Result<()>
-    requires there_is_such_a_line { line < length (print_lines reset (shown «record».now)) }
-{
-    let mut buffer = [0; LINE_LIMIT];
-    let written = write_line(record, reset, line, &mut buffer);
-    put_line(output, &buffer, written)
-}
-
-// Prints all lines of a record.
-fn print_record<W: Write>(output: &mut W, record: &Record, reset: usize) -> io::Result<()> {
-    for line in 0..line_count(record) {
-        print_line(output, record, reset, line)?;
-    }
-    Ok(())
 }
 
 // What the lines behind a reset announce: the record, and where the trace stopped, if it did.
@@ -93,32 +45,62 @@ fn survey_reset(mut gathering: Gathering, reader: Reader) -> (Record, Option<Sou
     (gathering.settle(), source_stop(filled))
 }
 
-// Prints what the lines behind this reset announce. Gives the gathering back, emptied for the next reset.
-fn print_reset<W: Write>(
-    output: &mut W,
-    gathering: Gathering,
-    reader: Reader,
+// The print of one reset: where it goes, and the number of the reset.
+#[derive(Drop)]
+struct ResetPrint<'a, W> {
+    output: &'a mut W,
     reset: usize,
-) -> io::Result<Gathering>
-    requires nothing_is_offered_yet { gathered gathering ≡ nothing_offered }
-    ensures gives_back_an_empty_gathering { IfOk result (λ g. gathered g ≡ nothing_offered) }
-{
-    let (record, stop) = survey_reset(gathering, reader);
-    print_record(output, &record, reset)?;
-    if let Some(stop) = stop {
-        print_trace_stop(output, reset, stop)?;
+}
+
+impl<W: Write> ResetPrint<'_, W> {
+    // Prints a line of a record.
+    fn print_line(&mut self, record: &Record, line: usize) -> io::Result<()>
+        requires there_is_such_a_line { line < length (print_lines self.old.reset (shown «record».now)) }
+    {
+        let mut buffer = [0; LINE_LIMIT];
+        let length = write_line(record, self.reset, line, &mut buffer).unwrap();
+        self.output.write_all(&buffer[..length])
     }
-    Ok(record.reset())
+
+    // Prints all lines of a record.
+    fn print_record(&mut self, record: &Record) -> io::Result<()> {
+        for line in 0..line_count(record) {
+            self.print_line(record, line)?;
+        }
+        Ok(())
+    }
+
+    // Prints where the trace stopped.
+    fn print_trace_stop(&mut self, stop: SourceStop) -> io::Result<()> {
+        let mut buffer = [0; LINE_LIMIT];
+        let length = write_trace_stop_line(self.reset, stop, &mut buffer).unwrap();
+        self.output.write_all(&buffer[..length])
+    }
+
+    // Prints what the lines behind the reset announce. Gives the gathering back, emptied for the next reset.
+    fn print_reset(&mut self, gathering: Gathering, reader: Reader) -> io::Result<Gathering>
+        requires nothing_is_offered_yet { gathered gathering ≡ nothing_offered }
+        ensures gives_back_an_empty_gathering { IfOk result (λ g. gathered g ≡ nothing_offered) }
+    {
+        let (record, stop) = survey_reset(gathering, reader);
+        self.print_record(&record)?;
+        if let Some(stop) = stop {
+            self.print_trace_stop(stop)?;
+        }
+        Ok(record.reset())
+    }
 }
 
 // Prints each reset of the trace, numbered from 1. What comes before the first is passed over, and so is what a stop leaves unread.
+#[tactic(auto, using(crate::proofs::Resets::few_lines, crate::proofs::Resets::fewer_left))]
 pub(crate) fn print_trace<W: Write>(output: &mut W, trace: &[u8]) -> io::Result<()> {
     let mut reader = Reader::new(trace);
     let mut gathering = Gathering::new();
     let mut reset = 0;
+    // How many resets there are shows only as the reader passes them, so they are counted.
     while reader.pass_to_reset() {
         reset += 1;
-        gathering = print_reset(output, gathering, reader, reset)?;
+        gathering = ResetPrint { output, reset }.print_reset(gathering, reader)?;
     }
     Ok(())
 }
