@@ -1,5 +1,5 @@
 -- The walk that writes an announcement: what is written, and what the open nodes are still to write.
-use Rattle.std.proofs.Common.{◌≡◌, ℕ, suc, ◌+◌, ◌<◌, ◌≤◌, true, false, cond, List, [], ◌∷◌, ◌++◌, length, get_or, drop, Some, None, Option, sym, refl, ap, ◌∙◌, subst, ap₂, append_assoc, append-nil, arith, length-append}
+use Rattle.std.proofs.Common.{◌≡◌, ℕ, zero, suc, ◌+◌, ◌<◌, ◌≤◌, true, false, cond, List, [], ◌∷◌, ◌++◌, length, get_or, drop, Some, None, Option, sym, refl, ap, ◌∙◌, subst, ap₂, append_assoc, append-nil, arith, length-append}
 use Rattle.std.proofs.lemmas.List.{drop-drop}
 use Rattle.selfid.specs.declared.mark.Mark.{Mark}
 use Rattle.selfid.specs.declared.node.Fields.{Fields}
@@ -71,6 +71,19 @@ down_other p ports i h = ap (λ b. cond b (Some (record { child = p.child; next 
 
 pub down_here : (p : RowPort) (ports : List RowPort) (i : ℕ) → is_down p ≡ true → down_from i (p ∷ ports) ≡ Some (record { child = p.child; next = i + 1 })
 down_here p ports i h = ap (λ b. cond b (Some (record { child = p.child; next = i + 1 })) (down_from (i + 1) ports)) h
+
+-- By where the first one is, if there is one.
+pub down_none : (ports : List RowPort) (i : ℕ) → ((k : ℕ) (d : RowPort) → k < length ports → is_down (get_or ports k d) ≡ false) → down_from i ports ≡ None
+down_none [] i h = refl
+down_none (p ∷ ports) i h = down_other p ports i (h 0 p (omega arith)) ∙ down_none ports (i + 1) (λ k d l. h (suc k) d (omega arith))
+
+pub down_at : (ports : List RowPort) (i k : ℕ) (d : RowPort) → k < length ports → is_down (get_or ports k d) ≡ true → ((j : ℕ) → j < k → is_down (get_or ports j d) ≡ false) → down_from i ports ≡ Some (record { child = (get_or ports k d).child; next = i + k + 1 })
+down_at [] i k d l e h = absurd (omega arith)
+down_at (p ∷ ports) i zero d l e h = down_here p ports i e ∙ ap (λ n. Some (record { child = p.child; next = n })) (omega arith)
+down_at (p ∷ ports) i (suc k) d l e h =
+    down_other p ports i (h 0 (omega arith))
+    ∙ down_at ports (i + 1) k d (omega arith) e (λ j m. h (suc j) (omega arith))
+    ∙ ap (λ n. Some (record { child = (get_or ports k d).child; next = n })) (omega arith)
 
 no_down : (rows : List Row) (ps : Ports) (ports : List RowPort) (i : ℕ) → DescribePorts rows ps ports → down_from i ports ≡ None → (size_below ps ≡ 0) × ((n : ℕ) → packets_below n ps ≡ [])
 no_down rows end ports i d e = (refl, λ n. refl)

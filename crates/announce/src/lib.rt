@@ -5,6 +5,7 @@
 pub mod described;
 pub mod frame;
 mod node;
+mod room;
 mod rows;
 pub mod stop;
 mod tree;

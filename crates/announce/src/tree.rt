@@ -8,7 +8,9 @@ ghost use Rattle.stack.specs.Held.{held, room};
 ghost use Rattle.announce.specs.Reach.{children, onto, hit, ChildrenBelow, Waiting, ReachedRows, WellFormed, ups_of, ups_due, Placed, Described};
 
 use crate::described::{Row, RowPort};
+use crate::room::push;
 use crate::stop::DescriptionStop;
+use selfid::mark::Mark;
 use selfid::node::NODE_LIMIT;
 use stack::Stack;
 
@@ -28,7 +30,7 @@ fn reach_children(
     ensures refuses_a_row_reached_twice { IfErr result (λ e. (e ≡ NoTree) × ((i : ℕ) × (i < rows) × (2 ≤ hit reached.old i + times i (children ports.now)))) }
 {
     for port in ports {
-        if !port.is_down() {
+        if !port.has(Mark::Down) {
             continue;
         }
         let child = port.child as usize;
@@ -36,9 +38,7 @@ fn reach_children(
             return Err(DescriptionStop::NoTree);
         }
         reached[child] = true;
-        let Ok(()) = stack.push(port.child) else {
-            unreachable();
-        };
+        push(stack, port.child);
     }
     Ok(())
 }
@@ -53,9 +53,7 @@ fn reach_all(rows: &[Row], waiting: &mut [u8]) -> Result<[bool; NODE_LIMIT], Des
     let mut reached = [false; NODE_LIMIT];
     reached[0] = true;
     let mut stack = Stack::new(waiting);
-    let Ok(()) = stack.push(0) else {
-        unreachable();
-    };
+    push(&mut stack, 0);
     while let Some(next) = stack.pop() {
         reach_children(
             &rows[next as usize].ports,
@@ -71,13 +69,7 @@ fn reach_all(rows: &[Row], waiting: &mut [u8]) -> Result<[bool; NODE_LIMIT], Des
 fn count_ups(ports: &[RowPort]) -> usize
     ensures counts_them { result ≡ ups_of ports.now }
 {
-    let mut count = 0;
-    for port in ports {
-        if port.is_up() {
-            count += 1;
-        }
-    }
-    count
+    ports.iter().filter(|port| port.has(Mark::Up)).count()
 }
 
 // Has row i, of which these are the ports, the up marks that are due: none in row 0, one in any other?

@@ -1,9 +1,9 @@
 //! The walk that writes an announcement: for each node, by rising down port, first its children and what hangs below them, then itself.
 
-ghost use Rattle.std.specs.Prelude.{◌≡◌, ◌+◌, ◌<◌, ◌≤◌, ◌∷◌, length, drop};
+ghost use Rattle.std.specs.Prelude.{◌≡◌, ◌+◌, ◌<◌, ◌≤◌, ◌∷◌, length, drop, position};
 ghost use Rattle.selfid.specs.Cabling.{Cabling};
 ghost use Rattle.selfid.specs.Announcement.{announcement};
-ghost use Rattle.announce.specs.Description.{Describes};
+ghost use Rattle.announce.specs.Description.{is_down, Describes};
 ghost use Rattle.stack.specs.Held.{held, room};
 ghost use Rattle.announce.specs.Reach.{WellFormed, Described};
 ghost use Rattle.announce.specs.Writing.{put, down_from};
@@ -11,7 +11,9 @@ ghost use Rattle.announce.specs.Writing.{put, down_from};
 use crate::described::{Row, RowPort};
 use crate::frame::Frame;
 use crate::node::{count_packets, write_node};
+use crate::room::push;
 use crate::rows::node_of;
+use selfid::mark::Mark;
 use stack::Stack;
 
 // A down port that was found: its child's row, and the port behind it.
@@ -21,21 +23,27 @@ pub struct Found {
     pub next: u8,
 }
 
+// How many ports from this one on are not down, if then one is.
+fn first_down(ports: &[RowPort], from: usize) -> Option<usize>
+    ensures is_its_place { result ≡ position is_down (drop from ports.now) }
+{
+    ports
+        .iter()
+        .skip(from)
+        .position(|port| port.has(Mark::Down))
+}
+
 // The first down port from this one on, if there is one.
 fn next_down(ports: &[RowPort], from: usize) -> Option<Found>
     requires few_ports { length ports.now < 256 }
     ensures is_the_first_from_there_on { result ≡ down_from from (drop from ports.now) }
 {
-    for port in from..ports.len() {
-        let here = ports[port];
-        if here.is_down() {
-            return Some(Found {
-                child: here.child,
-                next: (port + 1) as u8,
-            });
-        }
-    }
-    None
+    let passed = first_down(ports, from)?;
+    let at = from + passed;
+    Some(Found {
+        child: ports[at].child,
+        next: (at + 1) as u8,
+    })
 }
 
 // How many words the announcement of these rows takes.
@@ -56,18 +64,20 @@ fn enter(stack: &mut Stack<'_, Frame>, row: u8, found: Found)
     ensures keeps_the_room { room stack.new ≡ room stack.old }
     ensures puts_both_on_top { held stack.new ≡ record { row = found.child; port = 0 } ∷ record { row = row; port = found.next } ∷ held stack.old }
 {
-    let Ok(()) = stack.push(Frame {
-        row,
-        port: found.next,
-    }) else {
-        unreachable();
-    };
-    let Ok(()) = stack.push(Frame {
-        row: found.child,
-        port: 0,
-    }) else {
-        unreachable();
-    };
+    push(
+        stack,
+        Frame {
+            row,
+            port: found.next,
+        },
+    );
+    push(
+        stack,
+        Frame {
+            row: found.child,
+            port: 0,
+        },
+    );
 }
 
 // Writes the announcement of the rows to the front of the words, and answers its length.
@@ -80,9 +90,7 @@ pub(crate) fn write_all(rows: &[Row], frames: &mut [Frame], words: &mut [u32]) -
     ensures writes_it_and_keeps_the_rest { (c : Cabling) → Describes rows.now c → words.new ≡ put words.old 0 (announcement c) }
 {
     let mut stack = Stack::new(frames);
-    let Ok(()) = stack.push(Frame { row: 0, port: 0 }) else {
-        unreachable();
-    };
+    push(&mut stack, Frame { row: 0, port: 0 });
     let mut at = 0;
     let mut number: u8 = 0;
     while let Some(frame) = stack.pop() {

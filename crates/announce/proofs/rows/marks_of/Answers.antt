@@ -2,13 +2,13 @@ use Rattle.std.proofs.Common.{sym, ◌∙◌, arith, length-set}
 use Rattle.std.proofs.lemmas.List.{take_all}
 use Rattle.std.proofs.lemmas.Bool.{ltb-true}
 use Rattle.announce.specs.Rows.{is_mark}
-use Rattle.announce.proofs.Every.{every_at}
+use Rattle.std.proofs.lemmas.List.Sums.{AllPass-from_list_all}
 use Rattle.announce.proofs.Marked.{is_some, has_code, marked_more}
 use Rattle.announce.proofs.rows.marks_of.Goals as goal
 
 pub unreachable-requires : goal.unreachable-requires
 unreachable-requires c =
-    is_some _ (ltb-true _ 4 (every_at is_mark c.args.ports.now c.loop-i.i _ c.requires.all_are_in_range (omega arith))) (sym c.in-None.ensures.is_the_mark_with_this_code)
+    is_some _ (ltb-true _ 4 (AllPass-from_list_all is_mark c.args.ports.now c.requires.all_are_in_range c.loop-i.i _ (omega arith))) (sym c.in-None.ensures.is_the_mark_with_this_code)
 
 pub loop-i-preserved : goal.loop-i-preserved
 loop-i-preserved c = (

@@ -7,7 +7,7 @@ use Rattle.announce.proofs.tree.reach_all.Goals as goal
 
 pub loop-next-init : goal.loop-next-init
 loop-next-init c =
-    let e = c.in-Ok.ensures.puts_it_on_top ∙ ap (λ l. 0 ∷ l) c.new-stack.ensures.is_empty in
+    let e = c.push.ensures.puts_it_on_top ∙ ap (λ l. 0 ∷ l) c.new-stack.ensures.is_empty in
     (refl, refl, rw e (begun c.args.rows.now c.requires.rows_are_well_formed.some))
 
 pub bounds-rows-next : goal.bounds-rows-next
@@ -23,7 +23,7 @@ reach_children-requires c =
     let w = rw c.in-Some.ensures.takes_the_top_if_any at c.loop-next.invariant.2 in
     record {
       children_are_rows = its_children rows c.in-Some.next no_row (held c.pop.new.self) reached reached order w;
-      rows_fit = (order.few, omega (arith, c.in-Some.ensures.keeps_the_room, c.loop-next.invariant.1, c.in-Ok.ensures.keeps_the_room, c.new-stack.ensures.has_the_room_of_the_row));
+      rows_fit = (order.few, omega (arith, c.in-Some.ensures.keeps_the_room, c.loop-next.invariant.1, c.push.ensures.keeps_the_room, c.new-stack.ensures.has_the_room_of_the_row));
       each_waits_once = taken_off rows c.in-Some.next no_row (held c.pop.new.self) reached reached order w;
     }
 
@@ -57,4 +57,4 @@ returns-in_err-reach_children c =
     })
 
 pub returns : goal.returns
-returns c = record { each_is_reached_once = ended c.args.rows.now c.loop-next.reached (rw c.in_default-pop.ensures.takes_the_top_if_any.0 at c.loop-next.invariant.2); refuses_what_describes_no_cabling = tt }
+returns c = record { each_is_reached_once = ended c.args.rows.now c.loop-next.reached (rw c.in_default.ensures.takes_the_top_if_any.0 at c.loop-next.invariant.2); refuses_what_describes_no_cabling = tt }

@@ -1,13 +1,13 @@
 use Rattle.std.proofs.Common.{◌≡◌, ◌*◌, length, sym, ap, ◌∙◌, arith, rules}
 use Rattle.announce.specs.Announcing.{row_in_range}
-use Rattle.announce.proofs.Every.{every_at}
+use Rattle.std.proofs.lemmas.List.Sums.{AllPass-from_list_all}
 use Rattle.announce.proofs.Times.{total, total_more}
 use Rattle.announce.proofs.Told.{no_row, ports_here}
 use Rattle.announce.proofs.Lengths.{marks_read, read_back, packet_count, packets_at, length_announced}
 use Rattle.announce.proofs.writing.words_needed.Goals as goal
 
 pub node_of-requires : goal.node_of-requires
-node_of-requires c = record { is_in_range = every_at (row_in_range (length c.args.rows.now)) c.args.rows.now c.loop-row.row-index no_row c.requires.rows_are_well_formed.in_range c.loop-row-test.true }
+node_of-requires c = record { is_in_range = AllPass-from_list_all (row_in_range (length c.args.rows.now)) c.args.rows.now c.requires.rows_are_well_formed.in_range c.loop-row.row-index no_row c.loop-row-test.true }
 
 pub overflow_mul-needed : goal.overflow_mul-needed
 overflow_mul-needed c = search rules

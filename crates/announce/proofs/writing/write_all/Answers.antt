@@ -5,14 +5,14 @@ use Rattle.announce.specs.declared.writing.Found.{Found}
 use Rattle.announce.specs.Announcing.{row_in_range}
 use Rattle.announce.specs.Reach.{Described}
 use Rattle.announce.specs.Writing.{down_from}
-use Rattle.announce.proofs.Every.{every_at}
+use Rattle.std.proofs.lemmas.List.Sums.{AllPass-from_list_all}
 use Rattle.announce.proofs.Told.{no_row}
 use Rattle.announce.proofs.Opened.{Writing, begins, descends, node_next, node_room, ends, frame_row, frames_few}
 use Rattle.announce.proofs.writing.write_all.Goals as goal
 
 pub loop-frame-init : goal.loop-frame-init
 loop-frame-init c =
-    let e = c.in-Ok.ensures.puts_it_on_top ∙ ap (λ l. record { row = 0; port = 0 } ∷ l) c.new-stack.ensures.is_empty in
+    let e = c.push.ensures.puts_it_on_top ∙ ap (λ l. record { row = 0; port = 0 } ∷ l) c.new-stack.ensures.is_empty in
     (refl, λ d t. rw e (begins c.args.rows.now d c.args.words.now t.root))
 
 pub bounds-rows-frame : goal.bounds-rows-frame
@@ -30,7 +30,7 @@ enter-requires c =
     let known = c.requires.rows_describe_a_cabling in
     let w = rw c.in-Some.ensures.takes_the_top_if_any at (c.loop-frame.invariant.1 known.cabling known.describes) in
     let few = opened_few c.args.rows.now known c.in-Some.frame _ _ _ _ _ c.in-Some-next_down.found w c.in-Some-next_down.ensures.is_the_first_from_there_on in
-    record { there_is_room = omega (arith, few, c.requires.rows_fit_the_stack, c.in-Some.ensures.keeps_the_room, c.loop-frame.invariant.0, c.in-Ok.ensures.keeps_the_room, c.new-stack.ensures.has_the_room_of_the_row) }
+    record { there_is_room = omega (arith, few, c.requires.rows_fit_the_stack, c.in-Some.ensures.keeps_the_room, c.loop-frame.invariant.0, c.push.ensures.keeps_the_room, c.new-stack.ensures.has_the_room_of_the_row) }
 
 pub loop-frame-smaller-in-Some-next_down : goal.loop-frame-smaller-in-Some-next_down
 loop-frame-smaller-in-Some-next_down c =
@@ -54,7 +54,7 @@ node_of-requires c =
     let known = c.requires.rows_describe_a_cabling in
     let w = rw c.in-Some.ensures.takes_the_top_if_any at (c.loop-frame.invariant.1 known.cabling known.describes) in
     let small = frame_row rows known.cabling c.in-Some.frame _ _ _ _ _ w in
-    record { is_in_range = every_at (row_in_range (length rows)) rows c.in-Some.frame.row no_row c.requires.rows_are_well_formed.in_range small }
+    record { is_in_range = AllPass-from_list_all (row_in_range (length rows)) rows c.requires.rows_are_well_formed.in_range c.in-Some.frame.row no_row small }
 
 pub write_node-at-requires : goal.write_node-at-requires
 write_node-at-requires c =
