@@ -1,15 +1,22 @@
 -- Definitions for the inner functions: quadlets written into a row of words.
-use Rattle.std.specs.Prelude.{ℕ, ◌+◌, cond, List, [], ◌∷◌, ◌++◌, length, take, drop, Some, None, Option}
+use Rattle.std.specs.Prelude.{◌≡◌, ℕ, ◌+◌, cond, List, [], ◌∷◌, ◌++◌, length, take, drop, Some, None, Option}
 use Rattle.selfid.specs.declared.node.Node.{Node}
 use Rattle.selfid.specs.Packets.{with_inverses}
 use Rattle.selfid.specs.Nodes.{node_packets}
 use Rattle.announce.specs.declared.described.RowPort.{RowPort}
+use Rattle.announce.specs.declared.writer.Writer.{Writer}
 use Rattle.announce.specs.declared.writing.Found.{Found}
 use Rattle.announce.specs.Description.{is_down}
 
 -- The row with these words in it from place i on.
 abbrev pub put : List ℕ → (i : ℕ) → List ℕ → List ℕ
 put row i qs = take i row ++ (qs ++ drop (i + length qs) row)
+
+-- The writer `old` writes these words where it stands, and `new` stands behind them.
+pub record Writes (old new : Writer) (qs : List ℕ) : Type 0 where
+  pub same_row : new.words.ghost_name ≡ old.words.ghost_name
+  pub behind : new.at ≡ old.at + length qs
+  pub written : new.words.now ≡ put old.words.now old.at qs
 
 -- The quadlets of node n.
 abbrev pub node_quadlets : (n : ℕ) → Node → List ℕ

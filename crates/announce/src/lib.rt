@@ -9,6 +9,7 @@ mod room;
 mod rows;
 pub mod stop;
 mod tree;
+mod writer;
 mod writing;
 
 ghost use Rattle.std.specs.Prelude.{◌≤◌, length, IfOk};

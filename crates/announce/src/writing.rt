@@ -10,9 +10,10 @@ ghost use Rattle.announce.specs.Writing.{put, down_from};
 
 use crate::described::{Row, RowPort};
 use crate::frame::Frame;
-use crate::node::{count_packets, write_node};
+use crate::node::{Numbered, count_packets};
 use crate::room::push;
 use crate::rows::node_of;
+use crate::writer::Writer;
 use selfid::mark::Mark;
 use stack::Stack;
 
@@ -91,17 +92,18 @@ pub(crate) fn write_all(rows: &[Row], frames: &mut [Frame], words: &mut [u32]) -
 {
     let mut stack = Stack::new(frames);
     push(&mut stack, Frame { row: 0, port: 0 });
-    let mut at = 0;
+    let mut out = Writer { words, at: 0 };
     let mut number: u8 = 0;
     while let Some(frame) = stack.pop() {
         let row = &rows[frame.row as usize];
         match next_down(&row.ports, frame.port as usize) {
             Some(found) => enter(&mut stack, frame.row, found),
             None => {
-                at = write_node(number, &node_of(row, rows.len()), words, at);
+                let node = node_of(row, rows.len());
+                Numbered { number, node }.write(&mut out);
                 number += 1;
             }
         }
     }
-    at
+    out.at
 }

@@ -48,25 +48,24 @@ loop-frame-preserved-in-Some-next_down c = (
       rw c.enter.ensures.puts_both_on_top (descends c.args.rows.now d c.in-Some.frame _ _ _ _ _ c.in-Some-next_down.found w c.in-Some-next_down.ensures.is_the_first_from_there_on),
 )
 
-pub node_of-requires : goal.node_of-requires
-node_of-requires c =
+pub node_of-node-requires : goal.node_of-node-requires
+node_of-node-requires c =
     let rows = c.args.rows.now in
     let known = c.requires.rows_describe_a_cabling in
     let w = rw c.in-Some.ensures.takes_the_top_if_any at (c.loop-frame.invariant.1 known.cabling known.describes) in
     let small = frame_row rows known.cabling c.in-Some.frame _ _ _ _ _ w in
     record { is_in_range = AllPass-from_list_all (row_in_range (length rows)) rows c.requires.rows_are_well_formed.in_range c.in-Some.frame.row no_row small }
 
-pub write_node-at-requires : goal.write_node-at-requires
-write_node-at-requires c =
+pub write-requires : goal.write-requires
+write-requires c =
     let rows = c.args.rows.now in
     let known = c.requires.rows_describe_a_cabling in
     let f = c.in-Some.frame in
-    let x = c.node_of.result in
+    let x = c.node_of-node.result in
     let w = rw c.in-Some.ensures.takes_the_top_if_any at (c.loop-frame.invariant.1 known.cabling known.describes) in
     let few = frames_few rows known.cabling _ _ _ _ _ known.describes w in
-    let next = node_next rows known.cabling f _ _ _ _ _ x w c.node_of.ensures.is_told_by_the_row c.in-None.ensures.is_the_first_from_there_on in
+    let next = node_next rows known.cabling f _ _ _ _ _ x w c.node_of-node.ensures.is_told_by_the_row c.in-None.ensures.is_the_first_from_there_on in
     record {
-      number_fits = omega (arith, few, c.requires.rows_are_well_formed.few);
       there_is_room = node_room rows known.cabling f _ _ _ _ _ x w next (c.requires.there_is_room known.cabling known.describes);
     }
 
@@ -82,10 +81,10 @@ pub loop-frame-preserved : goal.loop-frame-preserved
 loop-frame-preserved c =
     let rows = c.args.rows.now in
     let f = c.in-Some.frame in
-    let x = c.node_of.result in (
+    let x = c.node_of-node.result in (
       c.in-Some.ensures.keeps_the_room ∙ c.loop-frame.invariant.0,
       λ d t.
           let w = rw c.in-Some.ensures.takes_the_top_if_any at (c.loop-frame.invariant.1 d t) in
-          let next = node_next rows d f _ _ _ _ _ x w c.node_of.ensures.is_told_by_the_row c.in-None.ensures.is_the_first_from_there_on in
-          rw (c.write_node-at.ensures.is_the_place_behind, c.write_node-at.ensures.writes_them_and_keeps_the_rest) (ends rows d f _ _ _ _ _ x w next (c.requires.there_is_room d t)),
+          let next = node_next rows d f _ _ _ _ _ x w c.node_of-node.ensures.is_told_by_the_row c.in-None.ensures.is_the_first_from_there_on in
+          rw (c.write.ensures.writes_them.behind, c.write.ensures.writes_them.written) (ends rows d f _ _ _ _ _ x w next (c.requires.there_is_room d t)),
     )

@@ -7,7 +7,7 @@ use Rattle.announce.proofs.writing.write_all.Given as goal
 
 abbrev pub invariant-loop-frame : goal.invariant-loop-frame
 invariant-loop-frame l =
-    (room l.stack ≡ room l.initial.stack) × ((c : Cabling) → Describes l.rows c → Writing l.rows c (held l.stack) l.number l.at l.initial.words l.words)
+    (room l.stack ≡ room l.initial.stack) × ((c : Cabling) → Describes l.rows c → Writing l.rows c (held l.stack) l.number l.out.at l.initial.out.words.now l.out.words.now)
 
 -- every node that is open is still to be written, and opening one or writing one takes a turn
 abbrev pub decreases-loop-frame : goal.decreases-loop-frame
