@@ -159,6 +159,18 @@ length_put row i qs h = simp (length-append, length-take, length-drop) (omega ar
 pub put_none : (row : List ℕ) (i : ℕ) → row ≡ put row i []
 put_none row i = sym (ap (λ n. take i row ++ drop n row) (add-zero i) ∙ take-append-drop i row)
 
+-- Nothing is written, and words are written behind others.
+pub nothing_written : (w : Writer) → Writes w w []
+nothing_written w = record { same_row = refl; behind = sym (add-zero w.at); written = put_none w.words.now w.at }
+
+pub both_written : (a b c : Writer) (qs rs : List ℕ) → a.at ≤ length a.words.now → Writes a b qs → Writes b c rs → Writes a c (qs ++ rs)
+both_written a b c qs rs h p q =
+    record {
+      same_row = q.same_row ∙ p.same_row;
+      behind = omega (arith, p.behind, q.behind, length-append qs rs);
+      written = q.written ∙ ap₂ (λ r k. put r k rs) p.written p.behind ∙ put_more a.words.now a.at qs rs h;
+    }
+
 -- Before turn t the extensions before it are written.
 pub record HalfSent (n t : ℕ) (ms : List Mark) (before now : Writer) : Type 0 where
   pub sent : List ℕ
@@ -167,16 +179,7 @@ pub record HalfSent (n t : ℕ) (ms : List Mark) (before now : Writer) : Type 0 
   pub writes : Writes before now (with_inverses sent)
 
 pub none_sent : (n : ℕ) (ms : List Mark) (w : Writer) → HalfSent n 0 ms w w
-none_sent n ms w = record { sent = []; turns = refl; all = refl; writes = record { same_row = refl; behind = sym (add-zero w.at); written = put_none w.words.now w.at } }
-
--- Words written behind others.
-pub both_written : (a b c : Writer) (qs rs : List ℕ) → a.at ≤ length a.words.now → Writes a b qs → Writes b c rs → Writes a c (qs ++ rs)
-both_written a b c qs rs h p q =
-    record {
-      same_row = q.same_row ∙ p.same_row;
-      behind = omega (arith, p.behind, q.behind, length-append qs rs);
-      written = q.written ∙ ap₂ (λ r k. put r k rs) p.written p.behind ∙ put_more a.words.now a.at qs rs h;
-    }
+none_sent n ms w = record { sent = []; turns = refl; all = refl; writes = nothing_written w }
 
 module _ (n t : ℕ) (ms : List Mark) (before now : Writer) (h : HalfSent n t ms before now) where
   abbrev word : ℕ

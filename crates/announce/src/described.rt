@@ -18,7 +18,7 @@ impl RowPort {
     pub(crate) fn has(&self, mark: Mark) -> bool
         ensures tells_if_it_has { result ≡ (self.now.mark == mark_code mark) }
     {
-        self.mark == mark.code()
+        self.mark == u8::from(mark)
     }
 }
 

@@ -17,17 +17,14 @@ use std::array;
 fn present_from(marks: &[Mark; PORT_LIMIT], first: usize) -> bool
     ensures tells_if_one_is { result ≡ present (drop first marks.now) }
 {
-    marks
-        .iter()
-        .skip(first)
-        .any(|mark| mark.code() != 0)
+    marks.iter().skip(first).any(|mark| *mark != Mark::Absent)
 }
 
 // The mark of a port; behind the last port it is absent.
 fn mark_at(marks: &[Mark; PORT_LIMIT], port: usize) -> Mark
     ensures is_the_mark { result ≡ slice_index_or marks.now port Absent }
 {
-    marks.get(port).copied().unwrap_or(Mark::Absent)
+    marks.get(port).copied().unwrap_or_default()
 }
 
 // The marks of so many ports, from this one on.

@@ -1,6 +1,7 @@
 //! Rows of a description: whether they are in range, and the nodes that they tell of.
 
 ghost use Rattle.std.specs.Prelude.{◌≡◌, ℕ, ◌<◌, ◌≤◌, true, length, Some, None, MatchBool, MatchResult, OnOk};
+ghost use Rattle.selfid.specs.Marks.{mark_code};
 ghost use Rattle.selfid.specs.Nodes.{port_limit};
 ghost use Rattle.std.specs.List.{list_all};
 ghost use Rattle.announce.specs.Announcing.{port_in_range, refused, row_in_range};
@@ -34,19 +35,20 @@ pub(crate) fn in_range(row: &Row, rows: usize) -> bool
     row.gap < 64 && row.speed < 3 && row.power < 8 && ports_in_range(&row.ports, rows)
 }
 
+// The mark that the port has the code of.
+fn mark_of(port: RowPort) -> Mark
+    requires has_a_code { is_mark port ≡ true }
+    ensures has_its_code { port.mark ≡ mark_code result }
+{
+    Mark::try_from(port.mark).unwrap()
+}
+
 // The marks that the ports tell of.
 fn marks_of(ports: &[RowPort; PORT_LIMIT]) -> [Mark; PORT_LIMIT]
     requires all_are_in_range { list_all is_mark ports.now ≡ true }
     ensures have_their_codes { HaveMarks ports.now result }
 {
-    let mut marks = [Mark::Absent; PORT_LIMIT];
-    for (i, port) in ports.iter().enumerate() {
-        match Mark::from_code(port.mark) {
-            Some(mark) => marks[i] = mark,
-            None => unreachable(),
-        }
-    }
-    marks
+    ports.map(|port| mark_of(port))
 }
 
 // The node that the row tells of.
@@ -54,16 +56,12 @@ pub(crate) fn node_of(row: &Row, rows: usize) -> Node
     requires is_in_range { row_in_range rows row.now ≡ true }
     ensures is_told_by_the_row { TellsNode row.now result }
 {
-    let speed = match Speed::from_code(row.speed) {
-        Some(speed) => speed,
-        None => unreachable(),
-    };
     let fields = Fields {
         link: row.link,
         contender: row.contender,
         initiator: row.initiator,
         gap: row.gap,
-        speed,
+        speed: Speed::try_from(row.speed).unwrap(),
         power: row.power,
     };
     Node {

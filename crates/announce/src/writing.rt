@@ -1,18 +1,20 @@
 //! The walk that writes an announcement: for each node, by rising down port, first its children and what hangs below them, then itself.
 
-ghost use Rattle.std.specs.Prelude.{◌≡◌, ◌+◌, ◌<◌, ◌≤◌, ◌∷◌, length, drop, position};
+ghost use Rattle.std.specs.Prelude.{◌≡◌, true, ◌+◌, ◌<◌, ◌≤◌, ◌∷◌, length, drop, position};
 ghost use Rattle.selfid.specs.Cabling.{Cabling};
 ghost use Rattle.selfid.specs.Announcement.{announcement};
+ghost use Rattle.announce.specs.Announcing.{row_in_range};
 ghost use Rattle.announce.specs.Description.{is_down, Describes};
 ghost use Rattle.stack.specs.Held.{held, room};
-ghost use Rattle.announce.specs.Reach.{WellFormed, Described};
-ghost use Rattle.announce.specs.Writing.{put, down_from};
+ghost use Rattle.announce.specs.Reach.{Described};
+ghost use Rattle.announce.specs.Writing.{Writes, down_from, words_told};
 
 use crate::described::{Row, RowPort};
 use crate::frame::Frame;
 use crate::node::{Numbered, count_packets};
 use crate::room::push;
 use crate::rows::node_of;
+use crate::walk::Walk;
 use crate::writer::Writer;
 use selfid::mark::Mark;
 use stack::Stack;
@@ -47,16 +49,13 @@ fn next_down(ports: &[RowPort], from: usize) -> Option<Found>
     })
 }
 
-// How many words the announcement of these rows takes.
-pub(crate) fn words_needed(rows: &[Row]) -> usize
-    requires rows_are_well_formed { WellFormed rows.now }
-    ensures is_the_length_of_what_they_announce { (c : Cabling) → Describes rows.now c → result ≡ length (announcement c) }
+// How many words the node of this row takes.
+fn words_of(row: &Row, rows: usize) -> usize
+    requires is_in_range { row_in_range rows row.now ≡ true }
+    ensures counts_them { result ≡ words_told row.now }
+    ensures at_most_six { result ≤ 6 }
 {
-    let mut needed = 0;
-    for row in rows {
-        needed += 2 * count_packets(&node_of(row, rows.len()).marks);
-    }
-    needed
+    2 * count_packets(&node_of(row, rows).marks)
 }
 
 // Puts the row back with the port behind the one that was found, and the child's row on top of it.
@@ -81,29 +80,35 @@ fn enter(stack: &mut Stack<'_, Frame>, row: u8, found: Found)
     );
 }
 
-// Writes the announcement of the rows to the front of the words, and answers its length.
-pub(crate) fn write_all(rows: &[Row], frames: &mut [Frame], words: &mut [u32]) -> usize
-    requires rows_are_well_formed { WellFormed rows.now }
-    requires rows_describe_a_cabling { Described rows.now }
-    requires rows_fit_the_stack { length rows.now ≤ length frames.old }
-    requires there_is_room { (c : Cabling) → Describes rows.now c → length (announcement c) ≤ length words.old }
-    ensures is_its_length { (c : Cabling) → Describes rows.now c → result ≡ length (announcement c) }
-    ensures writes_it_and_keeps_the_rest { (c : Cabling) → Describes rows.now c → words.new ≡ put words.old 0 (announcement c) }
-{
-    let mut stack = Stack::new(frames);
-    push(&mut stack, Frame { row: 0, port: 0 });
-    let mut out = Writer { words, at: 0 };
-    let mut number: u8 = 0;
-    while let Some(frame) = stack.pop() {
-        let row = &rows[frame.row as usize];
-        match next_down(&row.ports, frame.port as usize) {
-            Some(found) => enter(&mut stack, frame.row, found),
-            None => {
-                let node = node_of(row, rows.len());
-                Numbered { number, node }.write(&mut out);
-                number += 1;
+impl Walk<'_, Frame> {
+    // How many words the announcement of the rows takes.
+    pub(crate) fn words_needed(&self) -> usize
+        ensures is_the_length_of_what_they_announce { (c : Cabling) → Describes self.now.rows.now c → result ≡ length (announcement c) }
+    {
+        let rows = self.rows;
+        rows.iter().map(|row| words_of(row, rows.len())).sum()
+    }
+
+    // Writes the announcement of the rows.
+    pub(crate) fn write(&mut self, out: &mut Writer<'_>)
+        requires rows_describe_a_cabling { Described self.old.rows.now }
+        requires there_is_room { (c : Cabling) → Describes self.old.rows.now c → out.old.at + length (announcement c) ≤ length out.old.words.now }
+        ensures writes_it { (c : Cabling) → Describes self.old.rows.now c → Writes out.old out.new (announcement c) }
+    {
+        let rows = self.rows;
+        let mut open = Stack::new(self.stack);
+        push(&mut open, Frame { row: 0, port: 0 });
+        let mut number: u8 = 0;
+        while let Some(frame) = open.pop() {
+            let row = &rows[frame.row as usize];
+            match next_down(&row.ports, frame.port as usize) {
+                Some(found) => enter(&mut open, frame.row, found),
+                None => {
+                    let node = node_of(row, rows.len());
+                    Numbered { number, node }.write(out);
+                    number += 1;
+                }
             }
         }
     }
-    out.at
 }

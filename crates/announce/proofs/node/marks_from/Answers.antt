@@ -1,4 +1,4 @@
-use Rattle.std.proofs.Common.{◌≡◌, rules}
+use Rattle.std.proofs.Common.{rules}
 use Rattle.selfid.specs.declared.mark.Mark.TheVariants.{Absent}
 use Rattle.announce.proofs.Putting.{made_at}
 use Rattle.announce.proofs.node.marks_from.Goals as goal

@@ -1,4 +1,4 @@
-use Rattle.std.proofs.Common.{◌≡◌, ℕ, ◌+◌, ◌≤◌, List, [], ◌∷◌, length, drop, ap, ◌∙◌, arith}
+use Rattle.std.proofs.Common.{◌≡◌, ℕ, ◌+◌, ◌≤◌, [], ◌∷◌, length, drop, ap, ◌∙◌, arith}
 use Rattle.selfid.specs.Packets.{with_inverses}
 use Rattle.selfid.specs.declared.node.Node.{Node}
 use Rattle.selfid.specs.Nodes.{extensions}
