@@ -1,12 +1,10 @@
 -- How many quadlets rows announce: each node sends the packets that its row tells of.
-use Rattle.std.proofs.Common.{◌≡◌, ℕ, zero, suc, ◌+◌, ◌*◌, ◌≤◌, Bool, true, false, cond, List, [], ◌∷◌, map, length, get_or, take, drop, sum_by, sym, refl, ap, add-one, ◌∙◌, arith, length-append}
+use Rattle.std.proofs.Common.{◌≡◌, ℕ, zero, suc, ◌+◌, ◌*◌, ◌≤◌, List, [], ◌∷◌, map, length, get_or, take, drop, sum_by, sym, refl, ap, add-one, ◌∙◌, arith, length-append}
 use Rattle.std.proofs.lemmas.List.{take_all}
 use Rattle.std.proofs.lemmas.Simd.{map-map}
 use Rattle.std.proofs.lemmas.List.Sums.{sum_by_more}
 use Rattle.selfid.specs.declared.mark.Mark.{Mark}
-use Rattle.selfid.specs.Marks.{present}
 use Rattle.selfid.specs.Reading.{mark_in}
-use Rattle.selfid.specs.Packets.{extension_word}
 use Rattle.selfid.specs.Nodes.{extensions, node_packets}
 use Rattle.selfid.specs.Cabling.{Cabling, node, Ports, end, plain, down, marks_of, size, size_below}
 use Rattle.selfid.specs.Announcement.{packets_from, packets_below, packets, announcement}
@@ -31,14 +29,6 @@ packet_count ms = suc (length (extensions 2 0 0 (drop 3 ms)))
 
 abbrev pub packets_at : List Row → ℕ → ℕ
 packets_at rows i = packet_count (marks_told (ports_at rows i))
-
-pub count_at_most : (k n e : ℕ) (ms : List Mark) → length (extensions k n e ms) ≤ k
-count_at_most zero n e ms = omega arith
-count_at_most (suc k) n e ms = go (present ms) (count_at_most k n (suc e) (drop 8 ms))
-  where
-    go : (b : Bool) → length (extensions k n (suc e) (drop 8 ms)) ≤ k → length (cond b (extension_word n e ms (present (drop 8 ms)) ∷ extensions k n (suc e) (drop 8 ms)) []) ≤ suc k
-    go true h = omega arith
-    go false h = omega arith
 
 module _ (rows : List Row) where
   mutual

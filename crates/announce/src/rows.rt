@@ -19,7 +19,7 @@ use selfid::speed::Speed;
 fn port_in_range(port: &RowPort, rows: usize) -> bool
     ensures tells_if_it_is { result ≡ port_in_range rows port.now }
 {
-    port.mark < 4 && (!port.has(Mark::Down) || (port.child as usize) < rows)
+    Mark::try_from(port.mark).is_ok() && (!port.has(Mark::Down) || (port.child as usize) < rows)
 }
 
 fn ports_in_range(ports: &[RowPort], rows: usize) -> bool
@@ -32,7 +32,10 @@ fn ports_in_range(ports: &[RowPort], rows: usize) -> bool
 pub(crate) fn in_range(row: &Row, rows: usize) -> bool
     ensures tells_if_it_is { result ≡ row_in_range rows row.now }
 {
-    row.gap < 64 && row.speed < 3 && row.power < 8 && ports_in_range(&row.ports, rows)
+    row.gap < 64
+        && Speed::try_from(row.speed).is_ok()
+        && row.power < 8
+        && ports_in_range(&row.ports, rows)
 }
 
 // The mark that the port has the code of.
@@ -48,7 +51,7 @@ fn marks_of(ports: &[RowPort; PORT_LIMIT]) -> [Mark; PORT_LIMIT]
     requires all_are_in_range { list_all is_mark ports.now ≡ true }
     ensures have_their_codes { HaveMarks ports.now result }
 {
-    ports.map(|port| mark_of(port))
+    ports.map(mark_of)
 }
 
 // The node that the row tells of.
