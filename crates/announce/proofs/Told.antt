@@ -3,7 +3,7 @@ use Rattle.std.proofs.Common.{◌≡◌, ℕ, ◌<◌, Bool, true, false, ◌&&�
 use Rattle.std.specs.List.{list_all}
 use Rattle.std.proofs.lemmas.List.Sums.{AllPass-from_list_all, list_all-from_AllPass}
 use Rattle.std.proofs.lemmas.Option.{slice_get-get_or}
-use Rattle.std.proofs.lemmas.Bool.{and_parts, ltb-true}
+use Rattle.std.proofs.lemmas.Bool.{and_from, and_parts, ltb-true}
 use Rattle.selfid.specs.declared.node.Fields.{Fields}
 use Rattle.selfid.specs.declared.node.Node.{Node}
 use Rattle.selfid.specs.Reading.{speed_in}
@@ -11,7 +11,7 @@ use Rattle.selfid.proofs.Digits.{speed_again}
 use Rattle.announce.specs.declared.described.Row.{Row}
 use Rattle.announce.specs.Announcing.{port_in_range, row_in_range}
 use Rattle.announce.specs.Description.{HasFields, FieldsAt, ports_at}
-use Rattle.announce.specs.Rows.{is_mark, HaveMarks, TellsNode}
+use Rattle.announce.specs.Rows.{has_codes, is_mark, HaveMarks, TellsNode}
 use Rattle.announce.specs.Reach.{child_below, ChildrenBelow}
 use Rattle.announce.proofs.Forests.{Ready}
 
@@ -39,6 +39,15 @@ ranges n r e =
       marks = all_weaker (port_in_range n) is_mark r.ports (λ q h. (and_parts (ltb q.mark 4) (child_below n q) h).0) ports;
       children = all_weaker (port_in_range n) (child_below n) r.ports (λ q h. (and_parts (ltb q.mark 4) (child_below n q) h).1) ports;
     }
+
+-- So the row has codes.
+pub codes_in_range : (n : ℕ) (r : Row) → row_in_range n r ≡ true → has_codes r ≡ true
+codes_in_range n r e =
+    let (first, ports) = and_parts (ltb r.gap 64 && ltb r.speed 3 && ltb r.power 8) (list_all (port_in_range n) r.ports) e in
+    and_from (ltb r.gap 64 && ltb r.speed 3 && ltb r.power 8) (list_all is_mark r.ports) first (ranges n r e).marks
+
+pub codes_here : (rows : List Row) (i : ℕ) (d : Row) → list_all (row_in_range (length rows)) rows ≡ true → i < length rows → has_codes (get_or rows i d) ≡ true
+codes_here rows i d all h = codes_in_range (length rows) (get_or rows i d) (AllPass-from_list_all (row_in_range (length rows)) rows all i d h)
 
 -- The row's fields.
 fields_of : (n : ℕ) (r : Row) → Ranges n r → Fields

@@ -1,4 +1,4 @@
-//! A description of a cabling: a row for each node, row 0 the root. Its numbers can be out of range.
+//! A description of a cabling: a row for each node, row 0 the root. Its numbers come from outside and can be out of range, so marks and speeds stand in it as codes.
 
 ghost use Rattle.std.specs.Prelude.{◌≡◌, ◌==◌};
 ghost use Rattle.selfid.specs.Marks.{mark_code};
@@ -7,6 +7,7 @@ use selfid::mark::Mark;
 use selfid::node::PORT_LIMIT;
 
 // A port: the code of its mark, and for a down port the row of the child. Elsewhere the child is unread.
+// A child is named by its row's number, since with no heap nothing could own it.
 #[derive(Clone, Copy, Debug, PartialEq, Eq)]
 pub struct RowPort {
     pub mark: u8,

@@ -27,6 +27,7 @@ use crate::writer::Writer;
 // Writes the announcement of the cabling that the rows describe to the front of the words, and answers its length.
 // A description that is refused leaves the words as they are. The two stack rows need an element for each row:
 // `reach` keeps rows that wait while the tree is tested, `walk` where the writing stands. What they hold then is left over.
+// All of this is lent by the caller, since there is no heap.
 pub fn announce(
     rows: &[Row],
     reach: &mut [u8],

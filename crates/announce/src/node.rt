@@ -52,7 +52,7 @@ pub(crate) fn count_packets(marks: &[Mark; PORT_LIMIT]) -> usize
     1 + extension_count(marks)
 }
 
-// A node with its number.
+// A node with its number, which writes itself.
 #[derive(Clone, Copy)]
 pub(crate) struct Numbered {
     pub(crate) number: u8,
@@ -61,6 +61,7 @@ pub(crate) struct Numbered {
 }
 
 impl Numbered {
+    // Its packet zero.
     fn zero(&self) -> u32
         ensures is_packet_zero { result ≡ zero_word self.now.number self.now.node.fields self.now.node.marks (present (drop 3 self.now.node.marks)) }
     {
@@ -74,6 +75,7 @@ impl Numbered {
         Packet::Zero(packet).encode()
     }
 
+    // The extension with this number.
     fn extension(&self, turn: usize) -> u32
         requires turn_fits { turn < 8 }
         ensures is_the_extension { result ≡ extension_word self.now.number turn (drop (8 * turn + 3) self.now.node.marks) (present (drop 8 (drop (8 * turn + 3) self.now.node.marks))) }

@@ -7,7 +7,7 @@ ghost use Rattle.std.specs.List.{list_all};
 ghost use Rattle.announce.specs.Announcing.{port_in_range, refused, row_in_range};
 ghost use Rattle.announce.specs.Description.{ports_at};
 ghost use Rattle.announce.specs.Reach.{WellFormed};
-ghost use Rattle.announce.specs.Rows.{is_mark, HaveMarks, TellsNode};
+ghost use Rattle.announce.specs.Rows.{has_codes, is_mark, HaveMarks, TellsNode};
 
 use crate::described::{Row, RowPort};
 use crate::stop::DescriptionStop;
@@ -55,8 +55,8 @@ fn marks_of(ports: &[RowPort; PORT_LIMIT]) -> [Mark; PORT_LIMIT]
 }
 
 // The node that the row tells of.
-pub(crate) fn node_of(row: &Row, rows: usize) -> Node
-    requires is_in_range { row_in_range rows row.now ≡ true }
+pub(crate) fn node_of(row: &Row) -> Node
+    requires has_codes { has_codes row.now ≡ true }
     ensures is_told_by_the_row { TellsNode row.now result }
 {
     let fields = Fields {

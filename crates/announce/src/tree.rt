@@ -64,8 +64,8 @@ fn all_placed(rows: &[Row], reached: &[bool; NODE_LIMIT]) -> bool
     requires few_rows { length rows.now ≤ node_limit }
     ensures tells_if_all_are { MatchBool result ((i : ℕ) → i < length rows.now → Placed rows.now reached.now i) ((i : ℕ) × (i < length rows.now) × (Placed rows.now reached.now i → ⊥)) }
 {
-    rows.iter().zip(reached.iter()).enumerate().all(|(i, (row, reached))| *reached
-        && has_its_ups(&row.ports, i))
+    let mut told = rows.iter().zip(reached.iter()).enumerate();
+    told.all(|(i, (row, hit))| *hit && has_its_ups(&row.ports, i))
 }
 
 impl Walk<'_, u8> {

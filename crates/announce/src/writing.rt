@@ -3,10 +3,10 @@
 ghost use Rattle.std.specs.Prelude.{◌≡◌, true, ◌+◌, ◌<◌, ◌≤◌, ◌∷◌, length, drop, position};
 ghost use Rattle.selfid.specs.Cabling.{Cabling};
 ghost use Rattle.selfid.specs.Announcement.{announcement};
-ghost use Rattle.announce.specs.Announcing.{row_in_range};
 ghost use Rattle.announce.specs.Description.{is_down, Describes};
 ghost use Rattle.stack.specs.Held.{held, room};
 ghost use Rattle.announce.specs.Reach.{Described};
+ghost use Rattle.announce.specs.Rows.{has_codes};
 ghost use Rattle.announce.specs.Writing.{Writes, down_from, words_told};
 
 use crate::described::{Row, RowPort};
@@ -50,12 +50,12 @@ fn next_down(ports: &[RowPort], from: usize) -> Option<Found>
 }
 
 // How many words the node of this row takes.
-fn words_of(row: &Row, rows: usize) -> usize
-    requires is_in_range { row_in_range rows row.now ≡ true }
+fn words_of(row: &Row) -> usize
+    requires has_codes { has_codes row.now ≡ true }
     ensures counts_them { result ≡ words_told row.now }
     ensures at_most_six { result ≤ 6 }
 {
-    2 * count_packets(&node_of(row, rows).marks)
+    2 * count_packets(&node_of(row).marks)
 }
 
 // Puts the row back with the port behind the one that was found, and the child's row on top of it.
@@ -85,11 +85,10 @@ impl Walk<'_, Frame> {
     pub(crate) fn words_needed(&self) -> usize
         ensures is_the_length_of_what_they_announce { (c : Cabling) → Describes self.now.rows.now c → result ≡ length (announcement c) }
     {
-        let rows = self.rows;
-        rows.iter().map(|row| words_of(row, rows.len())).sum()
+        self.rows.iter().map(words_of).sum()
     }
 
-    // Writes the announcement of the rows.
+    // Writes the announcement of the rows. The stack keeps the rows whose nodes are not written yet.
     pub(crate) fn write(&mut self, out: &mut Writer<'_>)
         requires rows_describe_a_cabling { Described self.old.rows.now }
         requires there_is_room { (c : Cabling) → Describes self.old.rows.now c → out.old.at + length (announcement c) ≤ length out.old.words.now }
@@ -104,7 +103,7 @@ impl Walk<'_, Frame> {
             match next_down(&row.ports, frame.port as usize) {
                 Some(found) => enter(&mut open, frame.row, found),
                 None => {
-                    let node = node_of(row, rows.len());
+                    let node = node_of(row);
                     Numbered { number, node }.write(out);
                     number += 1;
                 }

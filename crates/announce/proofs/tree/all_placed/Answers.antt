@@ -13,7 +13,7 @@ returns c =
       tells_if_all_are =
           placed_or_not rows reached (omega arith) c.all.result
           (cases_from_all c.all.new.self _ c.all.result (λ p. is_placed p ≡ true) (λ p. is_placed p ≡ false) c.all.ensures.ran
-          (YieldsList-from_enumerate (YieldsList-from_zip (YieldsList-from_slice rows (search rules)) (YieldsList-from_slice reached (search rules))) c.enumerate.ensures.count)
+          (YieldsList-from_enumerate (YieldsList-from_zip (YieldsList-from_slice rows (search rules)) (YieldsList-from_slice reached (search rules))) c.enumerate-told.ensures.count)
           (λ x q k. search (rules, tests))
           (λ x q k. search (rules, tests)));
     }

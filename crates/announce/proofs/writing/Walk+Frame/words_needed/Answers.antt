@@ -1,22 +1,20 @@
-use Rattle.std.proofs.Common.{◌≡◌, true, length, map, sum, subst, sym, ◌∙◌, arith, rules}
+use Rattle.std.proofs.Common.{◌≡◌, true, map, sum, subst, sym, ◌∙◌, arith, rules}
 use Rattle.std.proofs.lemmas.Iterator.{YieldsList-from_slice, YieldsList-from_map}
 use Rattle.std.proofs.lemmas.Iterator.Adapters.{serves_from_places, fits_from_length, at_most_from_yields_List}
 use Rattle.std.proofs.lemmas.Iterator.Consumers.{sum_from_yields_List}
-use Rattle.std.proofs.lemmas.List.Sums.{AllPass-from_list_all, sum-map}
-use Rattle.announce.specs.Announcing.{row_in_range}
+use Rattle.std.proofs.lemmas.List.Sums.{sum-map}
+use Rattle.announce.specs.Rows.{has_codes}
 use Rattle.announce.specs.Writing.{words_told}
+use Rattle.announce.proofs.Told.{codes_here}
 use Rattle.announce.proofs.Lengths.{needed}
 use Rattle.announce.proofs.writing.Walk+Frame.words_needed.Goals as goal
 
 pub sum-requires-clause-can : goal.sum-requires-clause-can
 sum-requires-clause-can c =
-    let rows = c.args.self.now.rows.now in
-    let same : c.map.result.f.0.now ≡ rows = search rules in (
+    let rows = c.args.self.now.rows.now in (
       tt,
       serves_from_places (YieldsList-from_slice rows (search rules)) (λ x q k. search rules)
-          (λ x k h e.
-          let passes : row_in_range (length c.map.result.f.0.now) x.now ≡ true = rw same (subst (λ r. row_in_range (length rows) r ≡ true) (sym e) (AllPass-from_list_all (row_in_range (length rows)) rows c.args.self.now.well_formed.in_range k x.now h)) in
-          search rules),
+          (λ x k h e. let has : has_codes x.now ≡ true = subst (λ r. has_codes r ≡ true) (sym e) (codes_here rows k x.now c.args.self.now.well_formed.in_range h) in search rules),
     )
 
 pub sum-requires-clause-fits : goal.sum-requires-clause-fits

@@ -3,11 +3,9 @@ use Rattle.announce.specs.declared.described.Row.{Row}
 use Rattle.announce.specs.declared.frame.Frame.{Frame}
 use Rattle.announce.specs.declared.writer.Writer.{Writer}
 use Rattle.announce.specs.declared.writing.Found.{Found}
-use Rattle.announce.specs.Announcing.{row_in_range}
 use Rattle.announce.specs.Reach.{Described}
 use Rattle.announce.specs.Writing.{down_from}
-use Rattle.std.proofs.lemmas.List.Sums.{AllPass-from_list_all}
-use Rattle.announce.proofs.Told.{no_row}
+use Rattle.announce.proofs.Told.{no_row, codes_here}
 use Rattle.announce.proofs.Opened.{Writing, all_written, begins, descends, node_next, node_room, ends, frame_row, frames_few}
 use Rattle.announce.proofs.writing.Walk+Frame.write.Goals as goal
 
@@ -55,7 +53,7 @@ node_of-node-requires c =
     let known = c.requires.rows_describe_a_cabling in
     let w = rw c.in-Some.ensures.takes_the_top_if_any at (c.loop-frame.invariant.1 known.cabling known.describes) in
     let small = frame_row rows known.cabling c.in-Some.frame _ _ _ _ w in
-    record { is_in_range = AllPass-from_list_all (row_in_range (length rows)) rows c.args.self.now.well_formed.in_range c.in-Some.frame.row no_row small }
+    record { has_codes = codes_here rows c.in-Some.frame.row no_row c.args.self.now.well_formed.in_range small }
 
 pub write-requires : goal.write-requires
 write-requires c =
