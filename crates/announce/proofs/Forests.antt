@@ -7,7 +7,7 @@ use Rattle.selfid.specs.Cabling.{Childless, absent, «open», up, childless_mark
 use Rattle.selfid.proofs.Tells.{leads_to_none}
 use Rattle.announce.specs.declared.described.Row.{Row}
 use Rattle.announce.specs.declared.described.RowPort.{RowPort}
-use Rattle.announce.specs.Announcing.{every}
+use Rattle.std.specs.List.{list_all}
 use Rattle.announce.specs.Description.{is_down, FieldsAt, ports_at, DescribesAt, DescribePorts, rows_of, rows_below, times}
 use Rattle.announce.specs.Rows.{is_mark}
 use Rattle.announce.specs.Reach.{children, onto}
@@ -98,11 +98,11 @@ module _ (rows : List Row) where
   hang_port (suc (suc (suc zero))) p rest cs e l f ih = hang_down p rest cs e (rw (children_down p rest (marked_down p e)) at f) ih
   hang_port (suc (suc (suc (suc n)))) p rest cs e l f ih = absurd (omega arith)
 
-  pub hang : (ports : List RowPort) (cs : List Cabling) → every is_mark ports ≡ true → Forest rows (children ports) cs → Hung ports cs
+  pub hang : (ports : List RowPort) (cs : List Cabling) → list_all is_mark ports ≡ true → Forest rows (children ports) cs → Hung ports cs
   hang [] [] e f = record { hung = end; describe = tt; counts = λ k. refl }
   hang [] (c ∷ cs) e f = absurd f
   hang (p ∷ rest) cs e f =
-      let (first, others) = and_parts (ltb p.mark 4) (every is_mark rest) e in
+      let (first, others) = and_parts (ltb p.mark 4) (list_all is_mark rest) e in
       hang_port p.mark p rest cs refl (ltb-true p.mark 4 first) f (λ cs f. hang rest cs others f)
 
   -- Rows that were put on top of others, with the cablings that they describe.
@@ -166,7 +166,7 @@ pub record Reach (rows : List Row) (js : List ℕ) (reached : ℕ → ℕ) : Typ
 pub record Ready (rows : List Row) (i : ℕ) : Type 0 where
   pub fields : Fields
   pub told : FieldsAt rows i fields
-  pub marked : every is_mark (ports_at rows i) ≡ true
+  pub marked : list_all is_mark (ports_at rows i) ≡ true
 
 start_grown : (rows : List Row) (reached : ℕ → ℕ) → ((k : ℕ) → reached k ≡ is k 0) → (cs : List Cabling) → Forest rows (0 ∷ []) cs → Grown rows (0 ∷ []) reached cs
 start_grown rows reached h [] f = absurd f

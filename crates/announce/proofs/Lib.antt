@@ -1,4 +1,3 @@
-pub mod Every
 pub mod Marked
 pub mod Times
 pub mod Forests

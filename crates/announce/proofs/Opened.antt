@@ -1,5 +1,5 @@
 -- The walk that writes an announcement: what is written, and what the open nodes are still to write.
-use Rattle.std.proofs.Common.{◌≡◌, ℕ, suc, ◌+◌, ◌<◌, ◌≤◌, true, false, cond, List, [], ◌∷◌, ◌++◌, length, get_or, drop, Some, None, Option, sym, refl, ap, ◌∙◌, subst, ap₂, append_assoc, append-nil, arith, length-append}
+use Rattle.std.proofs.Common.{◌≡◌, ℕ, zero, suc, ◌+◌, ◌<◌, ◌≤◌, true, false, cond, List, [], ◌∷◌, ◌++◌, length, get_or, drop, Some, None, Option, sym, refl, ap, ◌∙◌, subst, ap₂, append_assoc, append-nil, arith, length-append}
 use Rattle.std.proofs.lemmas.List.{drop-drop}
 use Rattle.selfid.specs.declared.mark.Mark.{Mark}
 use Rattle.selfid.specs.declared.node.Fields.{Fields}
@@ -14,11 +14,12 @@ use Rattle.announce.specs.declared.frame.Frame.{Frame}
 use Rattle.announce.specs.declared.writing.Found.{Found}
 use Rattle.announce.specs.Description.{is_down, FieldsAt, ports_at, DescribesAt, DescribePorts, Describes}
 use Rattle.announce.specs.Rows.{HaveMarks, TellsNode}
-use Rattle.announce.specs.Writing.{put, down_from, node_quadlets}
+use Rattle.announce.specs.declared.writer.Writer.{Writer}
+use Rattle.announce.specs.Writing.{Writes, down_from, node_quadlets}
 use Rattle.announce.proofs.Forests.{not_down, marked_down}
 use Rattle.announce.proofs.Told.{no_row, ports_here, node_here}
 use Rattle.announce.proofs.Marked.{same_codes}
-use Rattle.announce.proofs.Putting.{length_pairs, pairs_append, put_more, put_none, length_put}
+use Rattle.announce.proofs.Putting.{length_pairs, pairs_append, nothing_written, both_written, length_put}
 use Rattle.announce.proofs.Trees.{row_small, one_fields, marks_told}
 use Rattle.announce.proofs.Placing.{size_told}
 
@@ -49,14 +50,13 @@ AllOpen rows [] (o ∷ os) = ⊥
 AllOpen rows (f ∷ fs) [] = ⊥
 AllOpen rows (f ∷ fs) (o ∷ os) = Opens rows f o × AllOpen rows fs os
 
-pub record Writing (rows : List Row) (c : Cabling) (frames : List Frame) (number at : ℕ) (before row : List ℕ) : Type 0 where
+pub record Writing (rows : List Row) (c : Cabling) (frames : List Frame) (number : ℕ) (start now : Writer) : Type 0 where
   pub written : List ℕ
   pub opened : List OpenNode
   pub stands : AllOpen rows frames opened
   pub all : written ++ rest number opened ≡ packets c
   pub count : number + nodes_left opened ≡ size c
-  pub place : at ≡ length (with_inverses written)
-  pub filled : row ≡ put before 0 (with_inverses written)
+  pub writes : Writes start now (with_inverses written)
 
 -- Every open node is still to be written.
 pub few_open : (rows : List Row) (fs : List Frame) (os : List OpenNode) → AllOpen rows fs os → length fs ≤ nodes_left os
@@ -71,6 +71,19 @@ down_other p ports i h = ap (λ b. cond b (Some (record { child = p.child; next 
 
 pub down_here : (p : RowPort) (ports : List RowPort) (i : ℕ) → is_down p ≡ true → down_from i (p ∷ ports) ≡ Some (record { child = p.child; next = i + 1 })
 down_here p ports i h = ap (λ b. cond b (Some (record { child = p.child; next = i + 1 })) (down_from (i + 1) ports)) h
+
+-- By where the first one is, if there is one.
+pub down_none : (ports : List RowPort) (i : ℕ) → ((k : ℕ) (d : RowPort) → k < length ports → is_down (get_or ports k d) ≡ false) → down_from i ports ≡ None
+down_none [] i h = refl
+down_none (p ∷ ports) i h = down_other p ports i (h 0 p (omega arith)) ∙ down_none ports (i + 1) (λ k d l. h (suc k) d (omega arith))
+
+pub down_at : (ports : List RowPort) (i k : ℕ) (d : RowPort) → k < length ports → is_down (get_or ports k d) ≡ true → ((j : ℕ) → j < k → is_down (get_or ports j d) ≡ false) → down_from i ports ≡ Some (record { child = (get_or ports k d).child; next = i + k + 1 })
+down_at [] i k d l e h = absurd (omega arith)
+down_at (p ∷ ports) i zero d l e h = down_here p ports i e ∙ ap (λ n. Some (record { child = p.child; next = n })) (omega arith)
+down_at (p ∷ ports) i (suc k) d l e h =
+    down_other p ports i (h 0 (omega arith))
+    ∙ down_at ports (i + 1) k d (omega arith) e (λ j m. h (suc j) (omega arith))
+    ∙ ap (λ n. Some (record { child = (get_or ports k d).child; next = n })) (omega arith)
 
 no_down : (rows : List Row) (ps : Ports) (ports : List RowPort) (i : ℕ) → DescribePorts rows ps ports → down_from i ports ≡ None → (size_below ps ≡ 0) × ((n : ℕ) → packets_below n ps ≡ [])
 no_down rows end ports i d e = (refl, λ n. refl)
@@ -104,16 +117,15 @@ next_child rows (down c ps) (p ∷ ports) i f d e =
     record { child = c; behind = ps; passed = 0; place = sym (ap (λ r. r.next) h); describes = subst (λ j. DescribesAt rows j c) (ap (λ r. r.child) h) d.1; others = d.2; sizes = refl; sends = λ n. refl }
 
 -- The walk begins at the root.
-pub begins : (rows : List Row) (c : Cabling) (row : List ℕ) → DescribesAt rows 0 c → Writing rows c (record { row = 0; port = 0 } ∷ []) 0 0 row row
-begins rows (node x ps) row d =
+pub begins : (rows : List Row) (c : Cabling) (w : Writer) → DescribesAt rows 0 c → Writing rows c (record { row = 0; port = 0 } ∷ []) 0 w w
+begins rows (node x ps) w d =
     record {
       written = [];
       opened = record { fields = x; marks = marks_of ps; left = ps } ∷ [];
       stands = (record { fields = d.0; marks = marks_told rows ps (ports_at rows 0) d.1; left = d.1 }, tt);
       all = ap (λ l. packets_below 0 ps ++ l) (append-nil (node_packets (0 + size_below ps) x (marks_of ps)));
       count = omega arith;
-      place = refl;
-      filled = put_none row 0;
+      writes = nothing_written w;
     }
 
 -- A child is opened: what is still to be written stays.
@@ -145,23 +157,23 @@ top_opened : (rows : List Row) (i : ℕ) (y : Fields) (qs : Ports) → Describes
 top_opened rows i y qs d = record { fields = d.0; marks = marks_told rows qs (ports_at rows i) d.1; left = d.1 }
 
 -- The row of a frame is a row, and there are no more frames than nodes to be written.
-pub frame_row : (rows : List Row) (c : Cabling) (f : Frame) (fs : List Frame) (number at : ℕ) (before row : List ℕ) → Writing rows c (f ∷ fs) number at before row → f.row < length rows
-frame_row rows c f fs number at before row w = go w.opened w.stands
+pub frame_row : (rows : List Row) (c : Cabling) (f : Frame) (fs : List Frame) (number : ℕ) (start now : Writer) → Writing rows c (f ∷ fs) number start now → f.row < length rows
+frame_row rows c f fs number start now w = go w.opened w.stands
   where
     go : (os : List OpenNode) → AllOpen rows (f ∷ fs) os → f.row < length rows
     go [] a = absurd a
     go (o ∷ os) a = row_small rows f.row o.fields a.0.fields
 
-pub frames_few : (rows : List Row) (c : Cabling) (fs : List Frame) (number at : ℕ) (before row : List ℕ) → Describes rows c → Writing rows c fs number at before row → number + length fs ≤ length rows
-frames_few rows c fs number at before row t w = omega (arith, w.count, few_open rows fs w.opened w.stands, size_told rows c t)
+pub frames_few : (rows : List Row) (c : Cabling) (fs : List Frame) (number : ℕ) (start now : Writer) → Describes rows c → Writing rows c fs number start now → number + length fs ≤ length rows
+frames_few rows c fs number start now t w = omega (arith, w.count, few_open rows fs w.opened w.stands, size_told rows c t)
 
 -- What a look through the ports of the frame's row tells.
 pub looked : (rows : List Row) (f : Frame) (r : Option Found) → f.row < length rows → r ≡ down_from f.port (drop f.port (get_or rows f.row no_row).ports) → down_from f.port (drop f.port (ports_at rows f.row)) ≡ r
 looked rows f r h e = ap (λ ports. down_from f.port (drop f.port ports)) (ports_here rows f.row no_row h) ∙ sym e
 
-module _ (rows : List Row) (c : Cabling) (f : Frame) (fs : List Frame) (number at : ℕ) (before row : List ℕ) where
+module _ (rows : List Row) (c : Cabling) (f : Frame) (fs : List Frame) (number : ℕ) (start now : Writer) where
   -- A down port is left: its child is opened.
-  child_opened : (g : Found) (w : Writing rows c (f ∷ fs) number at before row) (o : OpenNode) (os : List OpenNode) → w.opened ≡ o ∷ os → (n : Next rows o.left (drop f.port (ports_at rows f.row)) f.port g) (d : Cabling) → Opens rows f o → AllOpen rows fs os → DescribesAt rows g.child d → size_below o.left ≡ size d + size_below n.behind → packets_below number o.left ≡ packets_from number d ++ packets_below (number + size d) n.behind → Writing rows c (record { row = g.child; port = 0 } ∷ record { row = f.row; port = g.next } ∷ fs) number at before row
+  child_opened : (g : Found) (w : Writing rows c (f ∷ fs) number start now) (o : OpenNode) (os : List OpenNode) → w.opened ≡ o ∷ os → (n : Next rows o.left (drop f.port (ports_at rows f.row)) f.port g) (d : Cabling) → Opens rows f o → AllOpen rows fs os → DescribesAt rows g.child d → size_below o.left ≡ size d + size_below n.behind → packets_below number o.left ≡ packets_from number d ++ packets_below (number + size d) n.behind → Writing rows c (record { row = g.child; port = 0 } ∷ record { row = f.row; port = g.next } ∷ fs) number start now
   child_opened g w o os e n (node y qs) a others t sizes sends =
       record {
         written = w.written;
@@ -169,27 +181,26 @@ module _ (rows : List Row) (c : Cabling) (f : Frame) (fs : List Frame) (number a
         stands = (top_opened rows g.child y qs t, (behind_found rows f g o a n, others));
         all = ap (λ r. w.written ++ r) (sym (ap (rest number) e ∙ rest_child number o os y qs n.behind sizes sends)) ∙ w.all;
         count = omega (arith, w.count, ap nodes_left e);
-        place = w.place;
-        filled = w.filled;
+        writes = w.writes;
       }
 
-  descend : (g : Found) (w : Writing rows c (f ∷ fs) number at before row) (os : List OpenNode) → w.opened ≡ os → AllOpen rows (f ∷ fs) os → down_from f.port (drop f.port (ports_at rows f.row)) ≡ Some g → Writing rows c (record { row = g.child; port = 0 } ∷ record { row = f.row; port = g.next } ∷ fs) number at before row
+  descend : (g : Found) (w : Writing rows c (f ∷ fs) number start now) (os : List OpenNode) → w.opened ≡ os → AllOpen rows (f ∷ fs) os → down_from f.port (drop f.port (ports_at rows f.row)) ≡ Some g → Writing rows c (record { row = g.child; port = 0 } ∷ record { row = f.row; port = g.next } ∷ fs) number start now
   descend g w [] e a d = absurd a
   descend g w (o ∷ os) e a d =
       let n = next_child rows o.left (drop f.port (ports_at rows f.row)) f.port g a.0.left d in
       child_opened g w o os e n n.child a.0 a.1 n.describes n.sizes (n.sends number)
 
-  pub descends : (g : Found) → Writing rows c (f ∷ fs) number at before row → Some g ≡ down_from f.port (drop f.port (get_or rows f.row no_row).ports) → Writing rows c (record { row = g.child; port = 0 } ∷ record { row = f.row; port = g.next } ∷ fs) number at before row
-  descends g w d = descend g w w.opened refl w.stands (looked rows f (Some g) (frame_row rows c f fs number at before row w) d)
+  pub descends : (g : Found) → Writing rows c (f ∷ fs) number start now → Some g ≡ down_from f.port (drop f.port (get_or rows f.row no_row).ports) → Writing rows c (record { row = g.child; port = 0 } ∷ record { row = f.row; port = g.next } ∷ fs) number start now
+  descends g w d = descend g w w.opened refl w.stands (looked rows f (Some g) (frame_row rows c f fs number start now w) d)
 
   -- None is left: the node itself is the next that is written.
-  pub record NodeNext (x : Node) (w : Writing rows c (f ∷ fs) number at before row) : Type 0 where
+  pub record NodeNext (x : Node) (w : Writing rows c (f ∷ fs) number start now) : Type 0 where
     pub others : List OpenNode
     pub stand : AllOpen rows fs others
     pub sends : rest number w.opened ≡ node_packets number x.fields x.marks ++ rest (number + 1) others
     pub count : nodes_left w.opened ≡ suc (nodes_left others)
 
-  node_is : (x : Node) (w : Writing rows c (f ∷ fs) number at before row) (os : List OpenNode) → w.opened ≡ os → AllOpen rows (f ∷ fs) os → FieldsAt rows f.row x.fields → HaveMarks (ports_at rows f.row) x.marks → down_from f.port (drop f.port (ports_at rows f.row)) ≡ None → NodeNext x w
+  node_is : (x : Node) (w : Writing rows c (f ∷ fs) number start now) (os : List OpenNode) → w.opened ≡ os → AllOpen rows (f ∷ fs) os → FieldsAt rows f.row x.fields → HaveMarks (ports_at rows f.row) x.marks → down_from f.port (drop f.port (ports_at rows f.row)) ≡ None → NodeNext x w
   node_is x w [] e a xf xm d = absurd a
   node_is x w (o ∷ os) e a xf xm d =
       let (none, nothing) = no_down rows o.left (drop f.port (ports_at rows f.row)) f.port a.0.left d in
@@ -208,7 +219,7 @@ module _ (rows : List Row) (c : Cabling) (f : Frame) (fs : List Frame) (number a
         count = ap nodes_left e ∙ ap (λ k. suc (k + nodes_left os)) none ∙ omega arith;
       }
 
-  module _ (x : Node) (w : Writing rows c (f ∷ fs) number at before row) (h : NodeNext x w) (room : length (announcement c) ≤ length before) where
+  module _ (x : Node) (w : Writing rows c (f ∷ fs) number start now) (h : NodeNext x w) (room : start.at + length (announcement c) ≤ length start.words.now) where
     abbrev own : List ℕ
     own = node_packets number x.fields x.marks
 
@@ -218,38 +229,33 @@ module _ (rows : List Row) (c : Cabling) (f : Frame) (fs : List Frame) (number a
     long : length w.written + (length own + length (rest (number + 1) h.others)) ≡ length (packets c)
     long = sym (length-append w.written _ ∙ ap (λ n. length w.written + n) (length-append own _)) ∙ ap length all_parts
 
-    length_row : length row ≡ length before
-    length_row = ap length w.filled ∙ length_put before 0 (with_inverses w.written) (omega (arith, length_pairs w.written, length_pairs (packets c), long))
+    length_row : length now.words.now ≡ length start.words.now
+    length_row = ap length w.writes.written ∙ length_put start.words.now start.at (with_inverses w.written) (omega (arith, length_pairs w.written, length_pairs (packets c), long))
 
-    pub node_room : at + length (node_quadlets number x) ≤ length row
-    node_room = omega (arith, length_row, w.place, length_pairs w.written, length_pairs own, length_pairs (packets c), long)
+    pub node_room : now.at + length (node_quadlets number x) ≤ length now.words.now
+    node_room = omega (arith, length_row, w.writes.behind, length_pairs w.written, length_pairs own, length_pairs (packets c), long)
 
-    pub ends : Writing rows c fs (number + 1) (at + length (node_quadlets number x)) before (put row at (node_quadlets number x))
-    ends =
-        let whole = pairs_append w.written own in
-        let here : at ≡ 0 + length (with_inverses w.written) = omega (arith, w.place) in
+    pub ends : (after : Writer) → Writes now after (node_quadlets number x) → Writing rows c fs (number + 1) start after
+    ends after v =
         record {
           written = w.written ++ own;
           opened = h.others;
           stands = h.stand;
           all = append_assoc w.written own (rest (number + 1) h.others) ∙ all_parts;
           count = omega (arith, w.count, h.count);
-          place = ap₂ (λ a b. a + b) w.place refl ∙ sym (length-append (with_inverses w.written) (with_inverses own)) ∙ ap length (sym whole);
-          filled = ap₂ (λ r k. put r k (with_inverses own)) w.filled here ∙ put_more before 0 (with_inverses w.written) (with_inverses own) (omega arith) ∙ ap (put before 0) (sym whole);
+          writes = rw (pairs_append w.written own) (both_written start now after (with_inverses w.written) (with_inverses own) (omega arith) w.writes v);
         }
 
-  pub node_next : (x : Node) (w : Writing rows c (f ∷ fs) number at before row) → TellsNode (get_or rows f.row no_row) x → None ≡ down_from f.port (drop f.port (get_or rows f.row no_row).ports) → NodeNext x w
+  pub node_next : (x : Node) (w : Writing rows c (f ∷ fs) number start now) → TellsNode (get_or rows f.row no_row) x → None ≡ down_from f.port (drop f.port (get_or rows f.row no_row).ports) → NodeNext x w
   node_next x w told d =
-      let h = frame_row rows c f fs number at before row w in
+      let h = frame_row rows c f fs number start now w in
       let (xf, xm) = node_here rows f.row no_row x h told in
       node_is x w w.opened refl w.stands xf xm (looked rows f None h d)
 
 -- No frame is left: all is written.
-pub all_written : (rows : List Row) (c : Cabling) (number at : ℕ) (before row : List ℕ) → Writing rows c [] number at before row → (at ≡ length (announcement c)) × (row ≡ put before 0 (announcement c))
-all_written rows c number at before row w = go w.opened w.stands w.all
+pub all_written : (rows : List Row) (c : Cabling) (number : ℕ) (start now : Writer) → Writing rows c [] number start now → Writes start now (announcement c)
+all_written rows c number start now w = go w.opened w.stands w.all
   where
-    go : (os : List OpenNode) → AllOpen rows [] os → w.written ++ rest number os ≡ packets c → (at ≡ length (announcement c)) × (row ≡ put before 0 (announcement c))
-    go [] a e =
-        let done : w.written ≡ packets c = sym (append-nil w.written) ∙ e in
-        (w.place ∙ ap (λ qs. length (with_inverses qs)) done, w.filled ∙ ap (λ qs. put before 0 (with_inverses qs)) done)
+    go : (os : List OpenNode) → AllOpen rows [] os → w.written ++ rest number os ≡ packets c → Writes start now (announcement c)
+    go [] a e = rw (sym (append-nil w.written) ∙ e) at w.writes
     go (o ∷ os) a e = absurd a

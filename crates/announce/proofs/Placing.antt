@@ -1,6 +1,10 @@
 -- Rows that are each reached once, with the up marks that are due, describe a proper cabling; and no other rows do.
-use Rattle.std.proofs.Common.{◌≡◌, ℕ, zero, suc, ◌+◌, ◌<◌, ◌≤◌, Bool, ◌⊎◌, List, [], ◌∷◌, length, sym, refl, ◌∙◌, inl, inr, arith}
-use Rattle.std.proofs.lemmas.Bool.{cases_eq, cases_lt}
+use Rattle.std.proofs.Common.{◌≡◌, ℕ, zero, suc, ◌+◌, ◌<◌, ◌≤◌, Bool, true, false, ◌&&◌, ◌==◌, ◌⊎◌, MatchBool, List, [], ◌∷◌, length, get_or, sym, refl, ap, ap₂, ◌∙◌, zero-add, inl, inr, arith}
+use Rattle.std.specs.List.{zip, enumerate_from, AllWithin, HoldsAt}
+use Rattle.std.proofs.lemmas.Bool.{cases_eq, cases_lt, and_parts, and_from, eqb-true, eq-eqb, both_ways}
+use Rattle.std.proofs.lemmas.List.FromFn.{length-enumerate_from, get_or-enumerate_from}
+use Rattle.std.proofs.lemmas.Slice.Zip.{length-zip, get_or-zip}
+use Rattle.selfid.specs.Packets.{bit}
 use Rattle.selfid.specs.Cabling.{Cabling, node, Ports, end, plain, down, size, Sound, SoundBelow, Proper}
 use Rattle.announce.specs.declared.described.Row.{Row}
 use Rattle.announce.specs.declared.described.RowPort.{RowPort}
@@ -8,6 +12,7 @@ use Rattle.announce.specs.Description.{ports_at, DescribesAt, DescribePorts, row
 use Rattle.announce.specs.Reach.{ReachedRows, WellFormed, ups_of, ups_due, Placed}
 use Rattle.announce.proofs.Times.{is, is_same, is_other, times_append, total_same, total_one, length_total}
 use Rattle.announce.proofs.Forests.{under, times_rows}
+use Rattle.announce.proofs.Told.{no_row, ports_here}
 use Rattle.announce.proofs.Trees.{row_small, length_told, ups_told, rows_small, rows_size}
 
 -- A row that is not row 0 is due one up mark.
@@ -40,6 +45,40 @@ size_told rows c t =
     let all = rows_of rows 0 c in
     let n = length rows in
     sym (rows_size rows c 0 t.root) ∙ length_total all n (rows_small rows c 0 t.root) ∙ total_same (λ i. times i all) (λ _. 1) n t.each_once ∙ total_one n
+
+-- What is looked at of a row, its number and whether it is reached.
+abbrev pub is_placed : ℕ × (Row × Bool) → Bool
+is_placed p = p.1.1 && (ups_of p.1.0.ports == ups_due p.0)
+
+module _ (rows : List Row) (reached : List Bool) (enough : length rows ≤ length reached) where
+  abbrev pub looked_at : List (ℕ × (Row × Bool))
+  looked_at = enumerate_from 0 (zip rows reached)
+
+  each_looked_at : length looked_at ≡ length rows
+  each_looked_at = length-enumerate_from 0 (zip rows reached) ∙ length-zip rows reached ∙ omega arith
+
+  at_row : (i : ℕ) (d : ℕ × (Row × Bool)) → i < length rows → get_or looked_at i d ≡ (i, (get_or rows i d.1.0, get_or reached i d.1.1))
+  at_row i d h =
+      get_or-enumerate_from 0 (zip rows reached) i d (omega (arith, length-zip rows reached))
+      ∙ ap₂ (λ a b. (a, b)) (zero-add i) (get_or-zip rows reached i d.1 h (omega arith))
+
+  set_bit : (b : Bool) → bit b ≡ 1 → b ≡ true
+  set_bit true e = refl
+  set_bit false e = absurd (omega arith)
+
+  -- each row is placed, or one is not
+  pub placed_or_not : (r : Bool) → MatchBool r (AllWithin (λ p. is_placed p ≡ true) looked_at 0 (length looked_at)) ((k : ℕ) × (k < length looked_at) × HoldsAt (λ p. is_placed p ≡ false) looked_at k) → MatchBool r ((i : ℕ) → i < length rows → Placed rows reached i) ((i : ℕ) × (i < length rows) × (Placed rows reached i → ⊥))
+  placed_or_not true all = λ i h.
+      let passes = rw (at_row i (0, (no_row, false)) h) at (all i (0, (no_row, false)) (omega arith) (omega (arith, each_looked_at))) in
+      let (hit, ups) = and_parts (get_or reached i false) (ups_of (get_or rows i no_row).ports == ups_due i) passes in
+      (ap bit hit, ap ups_of (ports_here rows i no_row h) ∙ eqb-true _ _ ups)
+  placed_or_not false (i, h, fails) =
+      let small : i < length rows = omega (arith, each_looked_at) in
+      let no = rw (at_row i (0, (no_row, false)) small) at (fails (0, (no_row, false))) in (
+        i,
+        small,
+        λ placed. both_ways _ no (and_from (get_or reached i false) _ (set_bit _ placed.0) (eq-eqb _ _ (ap ups_of (sym (ports_here rows i no_row small)) ∙ placed.1))),
+      )
 
 -- All rows are placed: what row 0 describes is described by the rows, and is proper.
 pub all_placed : (rows : List Row) (reached : List Bool) → WellFormed rows → (all : ReachedRows rows reached) → ((i : ℕ) → i < length rows → Placed rows reached i) → Describes rows all.cabling × Proper all.cabling

@@ -1,22 +1,32 @@
 -- Words put into a row, and the packets of a node one after the other.
-use Rattle.std.proofs.Common.{◌≡◌, ℕ, zero, suc, ◌+◌, ◌-◌, ◌*◌, ◌<◌, ◌≤◌, Bool, true, false, cond, List, [], ◌∷◌, ◌++◌, length, get_or, take, drop, set, sym, refl, ap, ◌∙◌, ap₂, append_assoc, append-nil, add-zero, add-one, arith, length-append, length-drop, length-take}
-use Rattle.std.proofs.lemmas.List.{set_split, take-append-drop, take_at, drop_at, drop-drop, length-take-le, get_or-drop, length-set}
+use Rattle.std.proofs.Common.{◌≡◌, ℕ, zero, suc, ◌+◌, ◌-◌, ◌*◌, ◌<◌, ◌≤◌, Bool, true, false, cond, not, ◌||◌, ◌==◌, ◌⊎◌, List, [], ◌∷◌, ◌++◌, length, get_or, take, drop, inl, inr, subst, zero-add, sym, refl, ap, ◌∙◌, ap₂, append_assoc, append-nil, add-zero, arith, length-append, length-drop, length-take}
+use denote.Param.Members.{Mut}
+use Rattle.std.specs.Fn.{Called}
+use Rattle.std.specs.Array.{IsFromFnResult, IsFromFnResultFrom}
+use Rattle.std.specs.List.{list_any, take_while}
+use Rattle.std.proofs.lemmas.Bool.{cases_Bool, cases_lt}
+use Rattle.std.proofs.lemmas.List.Recursion.{same_from_clauses}
+use Rattle.std.proofs.lemmas.List.{nil_from_length, take-append-drop, take_at, drop_at, drop-drop, length-take-le, get_or-drop}
 use Rattle.selfid.specs.declared.mark.Mark.{Mark}
 use Rattle.selfid.specs.declared.mark.Mark.TheVariants.{Absent, Open, Up, Down}
 use Rattle.selfid.specs.Marks.{mark_code, present}
 use Rattle.selfid.specs.Packets.{code_at, extension_word, inverse_of, with_inverses}
 use Rattle.selfid.specs.Nodes.{extensions}
-use Rattle.announce.specs.Writing.{put}
+use Rattle.announce.specs.declared.writer.Writer.{Writer}
+use Rattle.announce.specs.Writing.{put, Writes}
 
--- A mark more in front.
-pub absent_first : (m : Mark) (ms : List Mark) → m ≡ Absent → present (m ∷ ms) ≡ present ms
-absent_first m ms e = ap (λ k. present (k ∷ ms)) e
+-- A mark that is there.
+abbrev pub is_there : Mark → Bool
+is_there m = not (mark_code m == 0)
 
-pub present_first : (m : Mark) (ms : List Mark) → (m ≡ Absent → ⊥) → present (m ∷ ms) ≡ true
-present_first Absent ms h = absurd (h refl)
-present_first Open ms h = refl
-present_first Up ms h = refl
-present_first Down ms h = refl
+pub some_there : (ms : List Mark) → list_any is_there ms ≡ present ms
+some_there = same_from_clauses (list_any is_there) present (λ m b. is_there m || b) refl (λ m ms. refl) one_more
+  where
+    one_more : (m : Mark) (ms : List Mark) → present (m ∷ ms) ≡ (is_there m || present ms)
+    one_more Absent ms = refl
+    one_more Open ms = refl
+    one_more Up ms = refl
+    one_more Down ms = refl
 
 -- Lengths of what is sent.
 pub length_pairs : (qs : List ℕ) → length (with_inverses qs) ≡ 2 * length qs
@@ -63,23 +73,56 @@ same_count (suc k) n m e f ms = go (present ms) (same_count k n m (suc e) (suc f
     go true ih = ap suc ih
     go false ih = refl
 
+-- The turns in which an extension is sent.
+pub count_turns : (ms : List Mark) → length {A = ℕ} (take_while (λ t. present (drop (8 * t + 3) ms)) (0 ∷ 1 ∷ [])) ≡ length (extensions 2 0 0 (drop 3 ms))
+count_turns ms = rw (drop-drop 8 3 ms) (go (present (drop 3 ms)) (present (drop 11 ms)))
+  where
+    go : (a b : Bool) → length {A = ℕ} (take (cond a (1 + cond b 1 0) 0) (0 ∷ 1 ∷ [])) ≡ length {A = ℕ} (cond a (extension_word 0 0 (drop 3 ms) (present (drop 11 ms)) ∷ cond b (extension_word 0 1 (drop 11 ms) (present (drop 8 (drop 11 ms))) ∷ []) []) [])
+    go true true = refl
+    go true false = refl
+    go false b = refl
+
+-- One is left as long as fewer are sent than there are.
+some_left : (k n t : ℕ) (ms : List Mark) → 0 < length (left k n t ms) → (t < k) × (present (drop (8 * t + 3) ms) ≡ true)
+some_left k n t ms some = (early (cases_lt t k), there (cases_Bool (present (drop (8 * t + 3) ms))))
+  where
+    early : (t < k) ⊎ (k ≤ t) → t < k
+    early (inl l) = l
+    early (inr l) = absurd (omega (arith, ap length (none_past k n t ms l)))
+
+    there : (present (drop (8 * t + 3) ms) ≡ true) ⊎ (present (drop (8 * t + 3) ms) ≡ false) → present (drop (8 * t + 3) ms) ≡ true
+    there (inl e) = e
+    there (inr e) = absurd (omega (arith, ap length (none_left (k - t) n t (drop (8 * t + 3) ms) e)))
+
+-- What calls that leave a closure as it is made, each at its place.
+module _ {F B : Type 0} (g : Mut F (ℕ × Unit {0}) B) (f : F) (ys : List B) (stays : (k : ℕ) (y : B) (q : F) → Called g f (k, tt) y q → q ≡ f) where
+  made_from : (i n k : ℕ) (d : B) → IsFromFnResultFrom g f ys i n → k < n → (q : F) × Called g f (i + k, tt) (get_or ys (i + k) d) q
+  made_from i zero k d h l = absurd (omega arith)
+  made_from i (suc n) zero d (q, y, e, call, rest) l = rw add-zero (q, rw (e.1 d) call)
+  made_from i (suc n) (suc k) d (q, y, e, call, rest) l =
+      let e : i + 1 + k ≡ i + suc k = omega arith in
+      rw (← e) (made_from (i + 1) n k d (subst (λ p. IsFromFnResultFrom g p ys (i + 1) n) (stays i y q call) rest) (omega arith))
+
+  pub made_at : (n k : ℕ) (d : B) → IsFromFnResult g f ys n → k < n → (q : F) × Called g f (k, tt) (get_or ys k d) q
+  made_at n k d h l = rw zero-add at (made_from 0 n k d h.each l)
+
 -- An extension has the first eight of the marks from its first port on.
-pub eight_taken : (n e first : ℕ) (ms : List Mark) (a b c d f g h i : Mark) (more : Bool) → a ≡ get_or ms first Absent → b ≡ get_or ms (first + 1) Absent → c ≡ get_or ms (first + 2) Absent → d ≡ get_or ms (first + 3) Absent → f ≡ get_or ms (first + 4) Absent → g ≡ get_or ms (first + 5) Absent → h ≡ get_or ms (first + 6) Absent → i ≡ get_or ms (first + 7) Absent → extension_word n e (a ∷ b ∷ c ∷ d ∷ f ∷ g ∷ h ∷ i ∷ []) more ≡ extension_word n e (drop first ms) more
-eight_taken n e first ms a b c d f g h i more ea eb ec ed ef eg eh ei =
+pub eight_taken : (n e first : ℕ) (ms taken : List Mark) (more : Bool) → ((i : ℕ) → i < 8 → get_or taken i Absent ≡ get_or ms (first + i) Absent) → extension_word n e taken more ≡ extension_word n e (drop first ms) more
+eight_taken n e first ms taken more h =
     omega (
       arith,
-      at 0 a (ea ∙ ap (λ k. get_or ms k Absent) (sym (add-zero first))),
-      at 1 b eb,
-      at 2 c ec,
-      at 3 d ed,
-      at 4 f ef,
-      at 5 g eg,
-      at 6 h eh,
-      at 7 i ei,
+      at 0 (omega arith),
+      at 1 (omega arith),
+      at 2 (omega arith),
+      at 3 (omega arith),
+      at 4 (omega arith),
+      at 5 (omega arith),
+      at 6 (omega arith),
+      at 7 (omega arith),
     )
   where
-    at : (k : ℕ) (m : Mark) → m ≡ get_or ms (first + k) Absent → mark_code m ≡ code_at (drop first ms) k
-    at k m e = ap mark_code (e ∙ sym (get_or-drop first ms k Absent))
+    at : (k : ℕ) → k < 8 → code_at taken k ≡ code_at (drop first ms) k
+    at k l = ap mark_code (h k l ∙ sym (get_or-drop first ms k Absent))
 
 -- Words put behind others, and two words written one by one.
 put_front : (row : List ℕ) (i : ℕ) (qs : List ℕ) → i ≤ length row → take (i + length qs) (put row i qs) ≡ take i row ++ qs
@@ -101,59 +144,66 @@ put_more row i qs rs h =
     ∙ ap (λ l. take i row ++ l) (sym (append_assoc qs rs (drop (i + length qs + length rs) row)))
     ∙ ap (λ n. take i row ++ ((qs ++ rs) ++ drop n row)) (omega (arith, length-append qs rs))
 
-pub put_one : (row : List ℕ) (i q : ℕ) → i < length row → set row i q ≡ put row i (q ∷ [])
-put_one row i q h = set_split row i q h ∙ ap (λ n. take i row ++ q ∷ drop n row) (sym (add-one i))
-
-pub put_two : (row : List ℕ) (i q r : ℕ) → i + 2 ≤ length row → set (set row i q) (i + 1) r ≡ put row i (q ∷ r ∷ [])
-put_two row i q r h =
-    put_one (set row i q) (i + 1) r (omega (arith, length-set row i q))
-    ∙ ap (λ l. put l (i + 1) (r ∷ [])) (put_one row i q (omega arith))
-    ∙ put_more row i (q ∷ []) (r ∷ []) (omega arith)
-
 pub length_put : (row : List ℕ) (i : ℕ) (qs : List ℕ) → i + length qs ≤ length row → length (put row i qs) ≡ length row
 length_put row i qs h = simp (length-append, length-take, length-drop) (omega arith)
 
 pub put_none : (row : List ℕ) (i : ℕ) → row ≡ put row i []
 put_none row i = sym (ap (λ n. take i row ++ drop n row) (add-zero i) ∙ take-append-drop i row)
 
--- Before turn t the extensions before it are written from place i on, and `next` is the place behind them.
-pub record HalfSent (n t : ℕ) (ms : List Mark) (before : List ℕ) (i : ℕ) (row : List ℕ) (next : ℕ) : Type 0 where
+-- Nothing is written, and words are written behind others.
+pub nothing_written : (w : Writer) → Writes w w []
+nothing_written w = record { same_row = refl; behind = sym (add-zero w.at); written = put_none w.words.now w.at }
+
+pub both_written : (a b c : Writer) (qs rs : List ℕ) → a.at ≤ length a.words.now → Writes a b qs → Writes b c rs → Writes a c (qs ++ rs)
+both_written a b c qs rs h p q =
+    record {
+      same_row = q.same_row ∙ p.same_row;
+      behind = omega (arith, p.behind, q.behind, length-append qs rs);
+      written = q.written ∙ ap₂ (λ r k. put r k rs) p.written p.behind ∙ put_more a.words.now a.at qs rs h;
+    }
+
+-- Before turn t the extensions before it are written.
+pub record HalfSent (n t : ℕ) (ms : List Mark) (before now : Writer) : Type 0 where
   pub sent : List ℕ
+  pub turns : length sent ≡ t
   pub all : sent ++ left 2 n t ms ≡ left 2 n 0 ms
-  pub place : next ≡ i + length (with_inverses sent)
-  pub written : row ≡ put before i (with_inverses sent)
+  pub writes : Writes before now (with_inverses sent)
 
-pub none_sent : (n : ℕ) (ms : List Mark) (row : List ℕ) (i : ℕ) → HalfSent n 0 ms row i row i
-none_sent n ms row i = record { sent = []; all = refl; place = sym (add-zero i); written = put_none row i }
+pub none_sent : (n : ℕ) (ms : List Mark) (w : Writer) → HalfSent n 0 ms w w
+none_sent n ms w = record { sent = []; turns = refl; all = refl; writes = nothing_written w }
 
-module _ (n t : ℕ) (ms : List Mark) (before : List ℕ) (i : ℕ) (row : List ℕ) (next : ℕ) (room : i + length (with_inverses (left 2 n 0 ms)) ≤ length before) (h : HalfSent n t ms before i row next) where
+module _ (n t : ℕ) (ms : List Mark) (before now : Writer) (h : HalfSent n t ms before now) where
   abbrev word : ℕ
   word = extension_word n t (drop (8 * t + 3) ms) (present (drop 8 (drop (8 * t + 3) ms)))
 
-  pub one_sent : t < 2 → present (drop (8 * t + 3) ms) ≡ true → HalfSent n (t + 1) ms before i (put row next (with_inverses (word ∷ []))) (next + 2)
-  one_sent l p =
-      record {
-        sent = h.sent ++ (word ∷ []);
-        all = append_assoc h.sent (word ∷ []) (left 2 n (t + 1) ms) ∙ ap (λ r. h.sent ++ r) (sym (left_more 2 n t ms l p)) ∙ h.all;
-        place = omega (arith, h.place, ap length (pairs_append h.sent (word ∷ [])), length-append (with_inverses h.sent) (with_inverses (word ∷ [])));
-        written =
-            ap₂ (λ r k. put r k (with_inverses (word ∷ []))) h.written h.place
-            ∙ put_more before i (with_inverses h.sent) (with_inverses (word ∷ [])) (omega arith)
-            ∙ ap (put before i) (sym (pairs_append h.sent (word ∷ [])));
-      }
+  module _ (more : t < length (left 2 n 0 ms)) where
+    this_left : (t < 2) × (present (drop (8 * t + 3) ms) ≡ true)
+    this_left = some_left 2 n t ms (omega (arith, ap length h.all, h.turns, length-append h.sent (left 2 n t ms)))
 
-  pub has_room : t < 2 → present (drop (8 * t + 3) ms) ≡ true → next + 2 ≤ length row
-  has_room l p =
-      let k = ap length h.all in
-      let e = ap length (left_more 2 n t ms l p) in
-      let long : length row ≡ length before = ap length h.written ∙ length_put before i (with_inverses h.sent) (omega (arith, length_pairs h.sent, length_pairs (left 2 n 0 ms), k, e, length-append h.sent (left 2 n t ms))) in
-      omega (arith, long, h.place, length_pairs h.sent, length_pairs (left 2 n 0 ms), k, e, length-append h.sent (left 2 n t ms))
+    pub turn_small : t < 2
+    turn_small = this_left.0
 
-  pub all_sent : left 2 n t ms ≡ [] → (next ≡ i + length (with_inverses (left 2 n 0 ms))) × (row ≡ put before i (with_inverses (left 2 n 0 ms)))
-  all_sent e =
+    here : left 2 n t ms ≡ word ∷ left 2 n (t + 1) ms
+    here = left_more 2 n t ms this_left.0 this_left.1
+
+    module _ (room : before.at + length (with_inverses (left 2 n 0 ms)) ≤ length before.words.now) where
+      pub one_sent : (after : Writer) → Writes now after (with_inverses (word ∷ [])) → HalfSent n (t + 1) ms before after
+      one_sent after w =
+          record {
+            sent = h.sent ++ (word ∷ []);
+            turns = omega (arith, h.turns, length-append h.sent (word ∷ []));
+            all = append_assoc h.sent (word ∷ []) (left 2 n (t + 1) ms) ∙ ap (λ r. h.sent ++ r) (sym here) ∙ h.all;
+            writes = rw (pairs_append h.sent (word ∷ [])) (both_written before now after (with_inverses h.sent) (with_inverses (word ∷ [])) (omega arith) h.writes w);
+          }
+
+      pub has_room : now.at + 2 ≤ length now.words.now
+      has_room =
+          let k = ap length h.all in
+          let long : length now.words.now ≡ length before.words.now = ap length h.writes.written ∙ length_put before.words.now before.at (with_inverses h.sent) (omega (arith, length_pairs h.sent, length_pairs (left 2 n 0 ms), k, length-append h.sent (left 2 n t ms))) in
+          omega (arith, long, h.writes.behind, length_pairs h.sent, length_pairs (left 2 n 0 ms), h.turns, more)
+
+  pub all_sent : length (left 2 n 0 ms) ≤ t → Writes before now (with_inverses (left 2 n 0 ms))
+  all_sent past =
+      let e : left 2 n t ms ≡ [] = nil_from_length (left 2 n t ms) (omega (arith, ap length h.all, h.turns, length-append h.sent (left 2 n t ms))) in
       let s : h.sent ≡ left 2 n 0 ms = sym (append-nil h.sent) ∙ ap (λ r. h.sent ++ r) (sym e) ∙ h.all in
-      (h.place ∙ ap (λ r. i + length (with_inverses r)) s, h.written ∙ ap (λ r. put before i (with_inverses r)) s)
-
--- Packet zero and the extensions behind it are the node's quadlets.
-pub whole_node : (row : List ℕ) (i z : ℕ) (es : List ℕ) → i ≤ length row → put (put row i (with_inverses (z ∷ []))) (i + 2) (with_inverses es) ≡ put row i (with_inverses (z ∷ es))
-whole_node row i z es h = put_more row i (with_inverses (z ∷ [])) (with_inverses es) h
+      rw s at h.writes

@@ -1,12 +1,12 @@
 -- One port after the other: its child is put on the stack and is reached.
 use Rattle.std.proofs.Common.{◌≡◌, ℕ, ◌+◌, ◌<◌, ◌≤◌, Bool, true, false, not, ◌||◌, ltb, ◌⊎◌, List, ◌∷◌, length, get_or, set, sym, ap, ◌∙◌, inl, inr, arith}
 use Rattle.std.proofs.lemmas.List.{get_or-set_same, get_or-set_other}
+use Rattle.std.proofs.lemmas.List.Sums.{AllPass-from_list_all}
 use Rattle.std.proofs.lemmas.Bool.{cases_eq, ltb-true}
 use Rattle.selfid.specs.Packets.{bit}
 use Rattle.announce.specs.declared.described.RowPort.{RowPort}
 use Rattle.announce.specs.Description.{is_down, times}
 use Rattle.announce.specs.Reach.{children, onto, hit, child_below, ChildrenBelow, Waiting}
-use Rattle.announce.proofs.Every.{every_at}
 use Rattle.announce.proofs.Times.{is, is_same, is_other, few}
 use Rattle.announce.proofs.Forests.{children_other, children_down}
 
@@ -20,7 +20,7 @@ pub record HalfReached (n : ℕ) (left ports : List RowPort) (held : List ℕ) (
 pub child_small : (n : ℕ) (ports : List RowPort) (i : ℕ) (d : RowPort) → ChildrenBelow n ports → i < length ports → is_down (get_or ports i d) ≡ true → (get_or ports i d).child < n
 child_small n ports i d all h down =
     let p = get_or ports i d in
-    let e : child_below n p ≡ true = every_at (child_below n) ports i d all h in
+    let e : child_below n p ≡ true = AllPass-from_list_all (child_below n) ports all i d h in
     let f : (not true || ltb p.child n) ≡ true = ap (λ b. not b || ltb p.child n) (sym down) ∙ e in
     ltb-true p.child n f
 

@@ -2,6 +2,7 @@
 use Rattle.std.proofs.Common.{◌≡◌, ℕ, suc, ◌+◌, ◌<◌, ◌≤◌, cond, eqb, ◌⊎◌, List, [], ◌∷◌, length, Some, None, Option, sym, refl, ap, ◌∙◌, ap₂, inl, inr, arith, length-append}
 use Rattle.std.specs.List.{slice_get}
 use Rattle.std.proofs.lemmas.List.{length-map}
+use Rattle.std.proofs.lemmas.List.Sums.{sum_by-cons}
 use Rattle.std.proofs.lemmas.Option.{slice_get_past}
 use Rattle.std.proofs.lemmas.Bool.{cases_lt}
 use Rattle.selfid.specs.declared.node.Fields.{Fields}
@@ -13,7 +14,7 @@ use Rattle.selfid.proofs.Digits.{speed_back}
 use Rattle.selfid.proofs.Tells.{head_code, tail_marks, leads_to_none, childless_known}
 use Rattle.announce.specs.declared.described.Row.{Row}
 use Rattle.announce.specs.declared.described.RowPort.{RowPort}
-use Rattle.announce.specs.Description.{HasFields, FieldsAt, ports_at, DescribesAt, DescribePorts, rows_of, rows_below, times}
+use Rattle.announce.specs.Description.{is_up, HasFields, FieldsAt, ports_at, DescribesAt, DescribePorts, rows_of, rows_below, times}
 use Rattle.announce.specs.Announcing.{DescribeOneCabling}
 use Rattle.announce.specs.Rows.{HaveMarks}
 use Rattle.announce.specs.Reach.{ups_of}
@@ -83,9 +84,10 @@ pub ups_told : (rows : List Row) (ps : Ports) (ports : List RowPort) → Describ
 ups_told rows end [] d = refl
 ups_told rows end (p ∷ rest) d = absurd d
 ups_told rows (plain k ps) [] d = absurd d
-ups_told rows (plain k ps) (p ∷ rest) d = ups_plain k ps ∙ ap₂ (λ a b. a + b) (sym (counts_up p (mark_code (childless_mark k)) d.0)) (ups_told rows ps rest d.1)
+ups_told rows (plain k ps) (p ∷ rest) d =
+    ups_plain k ps ∙ ap₂ (λ a b. a + b) (sym (counts_up p (mark_code (childless_mark k)) d.0)) (ups_told rows ps rest d.1) ∙ sym (sum_by-cons (λ q. cond (is_up q) 1 0) p rest)
 ups_told rows (down c ps) [] d = absurd d
-ups_told rows (down c ps) (p ∷ rest) d = omega (arith, counts_up p 3 d.0, ups_told rows ps rest d.2)
+ups_told rows (down c ps) (p ∷ rest) d = omega (arith, counts_up p 3 d.0, ups_told rows ps rest d.2, sum_by-cons (λ q. cond (is_up q) 1 0) p rest)
 
 module _ (rows : List Row) where
   -- The rows of a cabling are rows, as many as it has nodes.

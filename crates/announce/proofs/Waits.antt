@@ -5,7 +5,7 @@ use Rattle.selfid.specs.Packets.{bit}
 use Rattle.selfid.specs.Cabling.{Cabling}
 use Rattle.announce.specs.declared.described.Row.{Row}
 use Rattle.announce.specs.declared.described.RowPort.{RowPort}
-use Rattle.announce.specs.Announcing.{every}
+use Rattle.std.specs.List.{list_all}
 use Rattle.announce.specs.Description.{is_down, Describes, times}
 use Rattle.announce.specs.Reach.{children, onto, hit, child_below, ChildrenBelow, Waiting, ReachedRows, WellFormed}
 use Rattle.announce.proofs.Times.{is, is_same, is_other, times_onto, length_onto, total, total_add, total_same, length_total}
@@ -25,7 +25,7 @@ pub record Walking (rows : List Row) (waiting : List ℕ) (reached : List Bool) 
 no_more : (n : ℕ) (ports : List RowPort) → ChildrenBelow n ports → (i : ℕ) → n ≤ i → times i (children ports) ≡ 0
 no_more n [] all i h = refl
 no_more n (p ∷ rest) all i h =
-    let (here, others) = and_parts (child_below n p) (every (child_below n) rest) all in
+    let (here, others) = and_parts (child_below n p) (list_all (child_below n) rest) all in
     go (cases_Bool (is_down p)) here (no_more n rest others i h)
   where
     go : (is_down p ≡ true) ⊎ (is_down p ≡ false) → child_below n p ≡ true → times i (children rest) ≡ 0 → times i (children (p ∷ rest)) ≡ 0

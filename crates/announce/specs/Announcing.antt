@@ -1,5 +1,6 @@
 -- What announcing a description answers and writes.
-use Rattle.std.specs.Prelude.{◌≡◌, ℕ, ◌<◌, ◌≤◌, Bool, true, cond, not, ◌&&◌, ◌||◌, List, [], ◌∷◌, ◌++◌, length, drop, Some, None, Ok, Err, Option, Result, ◌==◌, nat_lt}
+use Rattle.std.specs.Prelude.{◌≡◌, ℕ, ◌<◌, ◌≤◌, Bool, cond, not, ◌&&◌, ◌||◌, List, ◌++◌, length, drop, Some, None, Ok, Err, Option, Result, ◌==◌, nat_lt}
+use Rattle.std.specs.List.{list_all}
 use Rattle.selfid.specs.Cabling.{Cabling, Proper, node_limit}
 use Rattle.selfid.specs.Announcement.{announcement}
 use Rattle.announce.specs.declared.described.Row.{Row}
@@ -12,20 +13,16 @@ use Rattle.announce.specs.Description.{is_down, Describes}
 abbrev pub port_in_range : (n : ℕ) → RowPort → Bool
 port_in_range n p = nat_lt p.mark 4 && (not (is_down p) || nat_lt p.child n)
 
-abbrev pub every : {A : Type 0} → (A → Bool) → List A → Bool
-every f [] = true
-every f (x ∷ xs) = f x && every f xs
-
 -- The gap count is 0 to 63, the speed code 0 to 2, the power class 0 to 7, and every port is in range.
 abbrev pub row_in_range : (n : ℕ) → Row → Bool
-row_in_range n r = nat_lt r.gap 64 && nat_lt r.speed 3 && nat_lt r.power 8 && every (port_in_range n) r.ports
+row_in_range n r = nat_lt r.gap 64 && nat_lt r.speed 3 && nat_lt r.power 8 && list_all (port_in_range n) r.ports
 
 -- What refuses a description before its tree is looked at: no row or more than 63, a stack row with fewer elements than there are rows, or something out of range.
 abbrev pub refused : List Row → (reach_room walk_room : ℕ) → Option DescriptionStop
 refused rows reach_room walk_room =
     cond (length rows == 0 || nat_lt node_limit (length rows)) (Some RowCount)
     (cond (nat_lt reach_room (length rows) || nat_lt walk_room (length rows)) (Some TooShort)
-    (cond (every (row_in_range (length rows)) rows) None (Some OutOfRange)))
+    (cond (list_all (row_in_range (length rows)) rows) None (Some OutOfRange)))
 
 -- The rows describe a proper cabling, and its announcement is written to the front of the words `before`, of which the rest stays; the answer is its length.
 pub record Written (rows : List Row) (before : List ℕ) (a : Result ℕ DescriptionStop) (after : List ℕ) : Type 0 where

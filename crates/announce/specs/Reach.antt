@@ -1,11 +1,12 @@
 -- Definitions for the inner functions: rows that are reached from row 0.
-use Rattle.std.specs.Prelude.{◌≡◌, ℕ, zero, suc, ◌+◌, ◌<◌, ◌≤◌, Bool, true, false, cond, not, ◌||◌, List, [], ◌∷◌, length, nat_lt, slice_index_or}
+use Rattle.std.specs.Prelude.{◌≡◌, ℕ, zero, suc, ◌<◌, ◌≤◌, Bool, true, false, cond, not, ◌||◌, List, [], ◌∷◌, length, nat_lt, count_by, slice_index_or}
+use Rattle.std.specs.List.{list_all}
 use Rattle.selfid.specs.Packets.{bit}
 use Rattle.selfid.specs.Nodes.{port_limit}
 use Rattle.selfid.specs.Cabling.{Cabling, Proper, node_limit}
 use Rattle.announce.specs.declared.described.Row.{Row}
 use Rattle.announce.specs.declared.described.RowPort.{RowPort}
-use Rattle.announce.specs.Announcing.{every, row_in_range}
+use Rattle.announce.specs.Announcing.{row_in_range}
 use Rattle.announce.specs.Description.{is_up, is_down, Describes, DescribesAt, ports_at, rows_of, times}
 
 -- The rows of the children, by rising down port.
@@ -23,7 +24,7 @@ abbrev pub child_below : (n : ℕ) → RowPort → Bool
 child_below n p = not (is_down p) || nat_lt p.child n
 
 abbrev pub ChildrenBelow : (n : ℕ) → List RowPort → Type 0
-ChildrenBelow n ports = every (child_below n) ports ≡ true
+ChildrenBelow n ports = list_all (child_below n) ports ≡ true
 
 -- 1 for a row that is reached, else 0.
 abbrev pub hit : List Bool → ℕ → ℕ
@@ -44,13 +45,12 @@ pub record ReachedRows (rows : List Row) (reached : List Bool) : Type 0 where
 pub record WellFormed (rows : List Row) : Type 0 where
   pub some : 1 ≤ length rows
   pub few : length rows ≤ node_limit
-  pub in_range : every (row_in_range (length rows)) rows ≡ true
+  pub in_range : list_all (row_in_range (length rows)) rows ≡ true
   pub all_ports : (i : ℕ) → i < length rows → length (ports_at rows i) ≡ port_limit
 
 -- How many ports are marked up.
 abbrev pub ups_of : List RowPort → ℕ
-ups_of [] = 0
-ups_of (p ∷ ps) = cond (is_up p) 1 0 + ups_of ps
+ups_of ports = count_by is_up ports
 
 -- The up marks that are due in row i: none in row 0, one in any other.
 abbrev pub ups_due : ℕ → ℕ

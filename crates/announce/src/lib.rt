@@ -5,9 +5,12 @@
 pub mod described;
 pub mod frame;
 mod node;
+mod room;
 mod rows;
 pub mod stop;
 mod tree;
+mod walk;
+mod writer;
 mod writing;
 
 ghost use Rattle.std.specs.Prelude.{◌≤◌, length, IfOk};
@@ -18,12 +21,13 @@ use crate::described::Row;
 use crate::frame::Frame;
 use crate::rows::check_rows;
 use crate::stop::DescriptionStop;
-use crate::tree::check_tree;
-use crate::writing::{words_needed, write_all};
+use crate::walk::Walk;
+use crate::writer::Writer;
 
 // Writes the announcement of the cabling that the rows describe to the front of the words, and answers its length.
 // A description that is refused leaves the words as they are. The two stack rows need an element for each row:
 // `reach` keeps rows that wait while the tree is tested, `walk` where the writing stands. What they hold then is left over.
+// All of this is lent by the caller, since there is no heap.
 pub fn announce(
     rows: &[Row],
     reach: &mut [u8],
@@ -36,9 +40,13 @@ pub fn announce(
     ensures announcement_tells_the_cabling { AnnouncementTellsTheCabling }
 {
     check_rows(rows, reach.len(), walk.len())?;
-    check_tree(rows, reach)?;
-    if words.len() < words_needed(rows) {
+    let mut reach = Walk { rows, stack: reach };
+    reach.check_tree()?;
+    let mut walk = Walk { rows, stack: walk };
+    if words.len() < walk.words_needed() {
         return Err(DescriptionStop::TooShort);
     }
-    Ok(write_all(rows, walk, words))
+    let mut out = Writer { words, at: 0 };
+    walk.write(&mut out);
+    Ok(out.at)
 }

@@ -5,12 +5,12 @@ ghost use Rattle.announce.specs.Stops.{stop_number};
 
 // There is no row or there are too many; a stack row or the row of words is too short; a field, a mark code or a child's row is out of range;
 // or the rows are no tree: one is reached twice or never, or the up marks are wrong.
-#[derive(Clone, Copy)]
+#[derive(Clone, Copy, Debug, PartialEq, Eq)]
 pub enum DescriptionStop {
-    RowCount,
-    TooShort,
-    OutOfRange,
-    NoTree,
+    RowCount = 14,
+    TooShort = 13,
+    OutOfRange = 15,
+    NoTree = 16,
 }
 
 impl DescriptionStop {
@@ -18,11 +18,6 @@ impl DescriptionStop {
     pub fn number(self) -> u8
         ensures is_its_number { result ≡ stop_number self }
     {
-        match self {
-            DescriptionStop::RowCount => 14,
-            DescriptionStop::TooShort => 13,
-            DescriptionStop::OutOfRange => 15,
-            DescriptionStop::NoTree => 16,
-        }
+        self as u8
     }
 }

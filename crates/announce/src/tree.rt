@@ -5,10 +5,13 @@ ghost use Rattle.selfid.specs.Cabling.{Cabling, Proper, node_limit};
 ghost use Rattle.announce.specs.declared.stop.DescriptionStop.TheVariants.{NoTree};
 ghost use Rattle.announce.specs.Description.{Describes, times};
 ghost use Rattle.stack.specs.Held.{held, room};
-ghost use Rattle.announce.specs.Reach.{children, onto, hit, ChildrenBelow, Waiting, ReachedRows, WellFormed, ups_of, ups_due, Placed, Described};
+ghost use Rattle.announce.specs.Reach.{children, onto, hit, ChildrenBelow, Waiting, ReachedRows, ups_of, ups_due, Placed, Described};
 
 use crate::described::{Row, RowPort};
+use crate::room::push;
 use crate::stop::DescriptionStop;
+use crate::walk::Walk;
+use selfid::mark::Mark;
 use selfid::node::NODE_LIMIT;
 use stack::Stack;
 
@@ -28,7 +31,7 @@ fn reach_children(
     ensures refuses_a_row_reached_twice { IfErr result (λ e. (e ≡ NoTree) × ((i : ℕ) × (i < rows) × (2 ≤ hit reached.old i + times i (children ports.now)))) }
 {
     for port in ports {
-        if !port.is_down() {
+        if !port.has(Mark::Down) {
             continue;
         }
         let child = port.child as usize;
@@ -36,48 +39,16 @@ fn reach_children(
             return Err(DescriptionStop::NoTree);
         }
         reached[child] = true;
-        let Ok(()) = stack.push(port.child) else {
-            unreachable();
-        };
+        push(stack, port.child);
     }
     Ok(())
-}
-
-// The rows that are reached from row 0, which waits first, then its children and theirs. A row that is reached twice is refused.
-fn reach_all(rows: &[Row], waiting: &mut [u8]) -> Result<[bool; NODE_LIMIT], DescriptionStop>
-    requires rows_are_well_formed { WellFormed rows.now }
-    requires rows_fit_the_stack { length rows.now ≤ length waiting.old }
-    ensures each_is_reached_once { IfOk result (λ reached. ReachedRows rows.now reached) }
-    ensures refuses_what_describes_no_cabling { IfErr result (λ e. (e ≡ NoTree) × ((c : Cabling) → Describes rows.now c → ⊥)) }
-{
-    let mut reached = [false; NODE_LIMIT];
-    reached[0] = true;
-    let mut stack = Stack::new(waiting);
-    let Ok(()) = stack.push(0) else {
-        unreachable();
-    };
-    while let Some(next) = stack.pop() {
-        reach_children(
-            &rows[next as usize].ports,
-            rows.len(),
-            &mut reached,
-            &mut stack,
-        )?;
-    }
-    Ok(reached)
 }
 
 // How many of the ports are marked up.
 fn count_ups(ports: &[RowPort]) -> usize
     ensures counts_them { result ≡ ups_of ports.now }
 {
-    let mut count = 0;
-    for port in ports {
-        if port.is_up() {
-            count += 1;
-        }
-    }
-    count
+    ports.iter().filter(|port| port.has(Mark::Up)).count()
 }
 
 // Has row i, of which these are the ports, the up marks that are due: none in row 0, one in any other?
@@ -93,28 +64,39 @@ fn all_placed(rows: &[Row], reached: &[bool; NODE_LIMIT]) -> bool
     requires few_rows { length rows.now ≤ node_limit }
     ensures tells_if_all_are { MatchBool result ((i : ℕ) → i < length rows.now → Placed rows.now reached.now i) ((i : ℕ) × (i < length rows.now) × (Placed rows.now reached.now i → ⊥)) }
 {
-    for (i, row) in rows.iter().enumerate() {
-        if !reached[i] {
-            return false;
-        }
-        if !has_its_ups(&row.ports, i) {
-            return false;
-        }
-    }
-    true
+    let mut told = rows.iter().zip(reached.iter()).enumerate();
+    told.all(|(i, (row, hit))| *hit && has_its_ups(&row.ports, i))
 }
 
-// Do the rows describe a proper cabling? The rows that wait for their children to be reached are kept in `waiting`.
-pub(crate) fn check_tree(rows: &[Row], waiting: &mut [u8]) -> Result<(), DescriptionStop>
-    requires rows_are_well_formed { WellFormed rows.now }
-    requires rows_fit_the_stack { length rows.now ≤ length waiting.old }
-    ensures passes_what_describes_a_proper_cabling { OnOk result (Described rows.now) }
-    ensures refuses_what_describes_none { IfErr result (λ e. (e ≡ NoTree) × ((c : Cabling) → Describes rows.now c → Proper c → ⊥)) }
-{
-    let reached = reach_all(rows, waiting)?;
-    if all_placed(rows, &reached) {
-        Ok(())
-    } else {
-        Err(DescriptionStop::NoTree)
+impl Walk<'_, u8> {
+    // The rows that are reached from row 0, which waits first, then its children and theirs. A row that is reached twice is refused.
+    fn reach_all(&mut self) -> Result<[bool; NODE_LIMIT], DescriptionStop>
+        ensures each_is_reached_once { IfOk result (λ reached. ReachedRows self.old.rows.now reached) }
+        ensures refuses_what_describes_no_cabling { IfErr result (λ e. (e ≡ NoTree) × ((c : Cabling) → Describes self.old.rows.now c → ⊥)) }
+    {
+        let rows = self.rows;
+        let mut reached = [false; NODE_LIMIT];
+        reached[0] = true;
+        let mut waiting = Stack::new(self.stack);
+        push(&mut waiting, 0);
+        while let Some(next) = waiting.pop() {
+            let ports = &rows[next as usize].ports;
+            reach_children(ports, rows.len(), &mut reached, &mut waiting)?;
+        }
+        Ok(reached)
+    }
+
+    // Do the rows describe a proper cabling? The rows that wait for their children to be reached are kept on the stack.
+    pub(crate) fn check_tree(&mut self) -> Result<(), DescriptionStop>
+        ensures passes_what_describes_a_proper_cabling { OnOk result (Described self.old.rows.now) }
+        ensures refuses_what_describes_none { IfErr result (λ e. (e ≡ NoTree) × ((c : Cabling) → Describes self.old.rows.now c → Proper c → ⊥)) }
+    {
+        let rows = self.rows;
+        let reached = self.reach_all()?;
+        if all_placed(rows, &reached) {
+            Ok(())
+        } else {
+            Err(DescriptionStop::NoTree)
+        }
     }
 }

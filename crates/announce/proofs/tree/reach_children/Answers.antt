@@ -8,17 +8,17 @@ use Rattle.announce.proofs.tree.reach_children.Goals as goal
 no_port : RowPort
 no_port = record { mark = 0; child = 0 }
 
-pub loop-port-preserved-then-not-is_down : goal.loop-port-preserved-then-not-is_down
+pub loop-port-preserved-then-not-has : goal.loop-port-preserved-then-not-has
 unfolding no_port
-loop-port-preserved-then-not-is_down c =
+loop-port-preserved-then-not-has c =
     let ports = c.args.ports.now in
     let i = c.loop-port.port-index in
     let h = rw (drop_more ports i no_port c.loop-port-test.true) at c.loop-port.invariant.2 in
-    (c.loop-port.invariant.0, c.loop-port.invariant.1, pass _ _ _ _ _ _ _ _ h (sym c.if-not-is_down.ensures.tells_if_it_is))
+    (c.loop-port.invariant.0, c.loop-port.invariant.1, pass _ _ _ _ _ _ _ _ h (sym c.if-not-has.ensures.tells_if_it_has))
 
 pub bounds-reached-child : goal.bounds-reached-child
 bounds-reached-child c =
-    let small = child_small c.args.rows c.args.ports.now c.loop-port.port-index _ c.requires.children_are_rows c.loop-port-test.true (sym c.if-not-is_down.ensures.tells_if_it_is) in
+    let small = child_small c.args.rows c.args.ports.now c.loop-port.port-index _ c.requires.children_are_rows c.loop-port-test.true (sym c.if-not-has.ensures.tells_if_it_has) in
     omega (arith, c.requires.rows_fit.0)
 
 pub returns-then-reached-child : goal.returns-then-reached-child
@@ -32,23 +32,23 @@ returns-then-reached-child c =
       children_wait = tt;
       children_are_reached = tt;
       refuses_a_row_reached_twice =
-          (refl, (_, child_small c.args.rows ports i _ c.requires.children_are_rows c.loop-port-test.true (sym c.if-not-is_down.ensures.tells_if_it_is), twice _ _ _ _ _ _ _ _ h (sym c.if-not-is_down.ensures.tells_if_it_is) (ap bit c.if-reached-child.true)));
+          (refl, (_, child_small c.args.rows ports i _ c.requires.children_are_rows c.loop-port-test.true (sym c.if-not-has.ensures.tells_if_it_has), twice _ _ _ _ _ _ _ _ h (sym c.if-not-has.ensures.tells_if_it_has) (ap bit c.if-reached-child.true)));
     }
 
 pub bounds-reached-child-in-loop-port : goal.bounds-reached-child-in-loop-port
 bounds-reached-child-in-loop-port c =
-    let small = child_small c.args.rows c.args.ports.now c.loop-port.port-index _ c.requires.children_are_rows c.loop-port-test.true (sym c.if-not-is_down.ensures.tells_if_it_is) in
+    let small = child_small c.args.rows c.args.ports.now c.loop-port.port-index _ c.requires.children_are_rows c.loop-port-test.true (sym c.if-not-has.ensures.tells_if_it_has) in
     omega (arith, c.requires.rows_fit.0)
 
-pub unreachable-requires : goal.unreachable-requires
+pub push-requires : goal.push-requires
 unfolding no_port
-unreachable-requires c =
+push-requires c =
     let ports = c.args.ports.now in
     let i = c.loop-port.port-index in
     let h = rw (drop_more ports i no_port c.loop-port-test.true) at c.loop-port.invariant.2 in
-    let small = child_small c.args.rows ports i _ c.requires.children_are_rows c.loop-port-test.true (sym c.if-not-is_down.ensures.tells_if_it_is) in
-    let space = has_room _ _ _ _ _ _ _ _ h (sym c.if-not-is_down.ensures.tells_if_it_is) small (ap bit c.if-reached-child.false) (omega (arith, c.loop-port.invariant.0, c.requires.rows_fit.0)) in
-    omega (arith, space, c.in_default.ensures.refuses_only_when_full, c.loop-port.invariant.1, c.requires.rows_fit.1)
+    let small = child_small c.args.rows ports i _ c.requires.children_are_rows c.loop-port-test.true (sym c.if-not-has.ensures.tells_if_it_has) in
+    let space = has_room _ _ _ _ _ _ _ _ h (sym c.if-not-has.ensures.tells_if_it_has) small (ap bit c.if-reached-child.false) (omega (arith, c.loop-port.invariant.0, c.requires.rows_fit.0)) in
+    record { there_is_room = omega (arith, space, c.loop-port.invariant.1, c.requires.rows_fit.1) }
 
 pub loop-port-preserved : goal.loop-port-preserved
 unfolding no_port
@@ -56,11 +56,11 @@ loop-port-preserved c =
     let ports = c.args.ports.now in
     let i = c.loop-port.port-index in
     let h = rw (drop_more ports i no_port c.loop-port-test.true) at c.loop-port.invariant.2 in
-    let small = child_small c.args.rows ports i _ c.requires.children_are_rows c.loop-port-test.true (sym c.if-not-is_down.ensures.tells_if_it_is) in
-    let more = take_on _ _ _ _ _ _ _ _ h (sym c.if-not-is_down.ensures.tells_if_it_is) small (ap bit c.if-reached-child.false) (omega (arith, c.loop-port.invariant.0, c.requires.rows_fit.0)) in (
+    let small = child_small c.args.rows ports i _ c.requires.children_are_rows c.loop-port-test.true (sym c.if-not-has.ensures.tells_if_it_has) in
+    let more = take_on _ _ _ _ _ _ _ _ h (sym c.if-not-has.ensures.tells_if_it_has) small (ap bit c.if-reached-child.false) (omega (arith, c.loop-port.invariant.0, c.requires.rows_fit.0)) in (
       length-set c.loop-port.reached _ true ∙ c.loop-port.invariant.0,
-      c.in-Ok.ensures.keeps_the_room ∙ c.loop-port.invariant.1,
-      rw c.in-Ok.ensures.puts_it_on_top more,
+      c.push.ensures.keeps_the_room ∙ c.loop-port.invariant.1,
+      rw c.push.ensures.puts_it_on_top more,
     )
 
 pub returns : goal.returns

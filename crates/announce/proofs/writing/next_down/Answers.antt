@@ -1,26 +1,27 @@
-use Rattle.std.proofs.Common.{◌+◌, get_or, drop, sym, ◌∙◌}
-use Rattle.std.proofs.lemmas.List.{at_drop_more, at_drop_all}
+use Rattle.std.proofs.Common.{◌≡◌, ◌+◌, ◌≤◌, List, length, get_or, drop, Some, None, position, sym, ap, ◌∙◌, arith}
+use Rattle.std.specs.List.{position_or_len}
+use Rattle.std.proofs.lemmas.List.{get_or-drop}
+use Rattle.std.proofs.lemmas.List.Quantifiers.{position-Some}
+use Rattle.std.proofs.lemmas.List.Sums.{fails_before_first}
 use Rattle.announce.specs.declared.described.RowPort.{RowPort}
-use Rattle.announce.specs.Writing.{down_from}
-use Rattle.announce.proofs.Opened.{down_other, down_here}
+use Rattle.announce.specs.Description.{is_down}
+use Rattle.announce.proofs.Opened.{down_none, down_at}
 use Rattle.announce.proofs.writing.next_down.Goals as goal
 
-abbrev no_port : RowPort
-no_port = record { mark = 0; child = 0 }
+no_place : (ports : List RowPort) → None ≡ position is_down ports → length ports ≤ position_or_len is_down ports
+no_place ports e = grind arith
 
-pub returns-then-is_down : goal.returns-then-is_down
-returns-then-is_down c =
-    let ports = c.args.ports.now in
-    let i = c.loop-port.port in
-    let here = at_drop_more (down_from i) ports i no_port c.loop-port-test.true in
-    record { is_the_first_from_there_on = sym (here ∙ down_here (get_or ports i no_port) (drop (i + 1) ports) i (sym c.if-is_down.ensures.tells_if_it_is)) ∙ c.loop-port.invariant }
-
-pub loop-port-preserved : goal.loop-port-preserved
-loop-port-preserved c =
-    let ports = c.args.ports.now in
-    let i = c.loop-port.port in
-    let here = at_drop_more (down_from i) ports i no_port c.loop-port-test.true in
-    sym (here ∙ down_other (get_or ports i no_port) (drop (i + 1) ports) i (sym c.if-is_down.ensures.tells_if_it_is)) ∙ c.loop-port.invariant
+pub returns-in_err-passed : goal.returns-in_err-passed
+returns-in_err-passed c =
+    let ports = drop c.args.from c.args.ports.now in
+    let past = no_place ports c.in_err-passed.ensures.is_its_place in
+    record { is_the_first_from_there_on = c.from_residual.ensures ∙ sym (down_none ports c.args.from (λ k d l. fails_before_first is_down ports k d (omega arith))) }
 
 pub returns : goal.returns
-returns c = record { is_the_first_from_there_on = sym (at_drop_all (down_from c.loop-port.port) c.args.ports.now c.loop-port.port c.loop-port-test.false) ∙ c.loop-port.invariant }
+returns c =
+    let ports = drop c.args.from c.args.ports.now in
+    let k = c.in_ok-passed.passed in
+    let none : RowPort = record { mark = 0; child = 0 } in
+    let (small, first, others) = position-Some is_down ports k none (sym c.in_ok-passed.ensures.is_its_place) in
+    let here : get_or c.args.ports.now (c.args.from + k) none ≡ get_or ports k none = sym (get_or-drop c.args.from c.args.ports.now k none) in
+    record { is_the_first_from_there_on = ap (λ p. Some (record { child = p.child; next = c.args.from + k + 1 })) here ∙ sym (down_at ports c.args.from k none small first others) }

@@ -3,12 +3,12 @@ use Rattle.selfid.specs.Cabling.{Cabling}
 use Rattle.announce.specs.Description.{Describes}
 use Rattle.stack.specs.Held.{held, room}
 use Rattle.announce.proofs.Opened.{Writing}
-use Rattle.announce.proofs.writing.write_all.Given as goal
+use Rattle.announce.proofs.writing.Walk+Frame.write.Given as goal
 
 abbrev pub invariant-loop-frame : goal.invariant-loop-frame
 invariant-loop-frame l =
-    (room l.stack ≡ room l.initial.stack) × ((c : Cabling) → Describes l.rows c → Writing l.rows c (held l.stack) l.number l.at l.initial.words l.words)
+    (room l.open ≡ room l.initial.open) × ((c : Cabling) → Describes l.rows c → Writing l.rows c (held l.open) l.number l.initial.out l.out)
 
 -- every node that is open is still to be written, and opening one or writing one takes a turn
 abbrev pub decreases-loop-frame : goal.decreases-loop-frame
-decreases-loop-frame l = 2 * (length l.rows - l.number) - length (held l.stack)
+decreases-loop-frame l = 2 * (length l.rows - l.number) - length (held l.open)

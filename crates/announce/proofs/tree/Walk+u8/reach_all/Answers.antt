@@ -3,27 +3,27 @@ use Rattle.std.proofs.lemmas.Result.{err_from_is_err_and}
 use Rattle.stack.specs.Held.{held}
 use Rattle.announce.proofs.Told.{no_row}
 use Rattle.announce.proofs.Waits.{begun, next_small, taken_off, its_children, put_on, falls, no_cabling, ended}
-use Rattle.announce.proofs.tree.reach_all.Goals as goal
+use Rattle.announce.proofs.tree.Walk+u8.reach_all.Goals as goal
 
 pub loop-next-init : goal.loop-next-init
 loop-next-init c =
-    let e = c.in-Ok.ensures.puts_it_on_top ∙ ap (λ l. 0 ∷ l) c.new-stack.ensures.is_empty in
-    (refl, refl, rw e (begun c.args.rows.now c.requires.rows_are_well_formed.some))
+    let e = c.push.ensures.puts_it_on_top ∙ ap (λ l. 0 ∷ l) c.new-waiting.ensures.is_empty in
+    (refl, refl, rw e (begun c.args.self.now.rows.now c.args.self.now.well_formed.some))
 
 pub bounds-rows-next : goal.bounds-rows-next
 bounds-rows-next c =
     let w = rw c.in-Some.ensures.takes_the_top_if_any at c.loop-next.invariant.2 in
-    next_small (length c.args.rows.now) c.in-Some.next (held c.pop.new.self) c.loop-next.reached w.once
+    next_small (length c.args.self.now.rows.now) c.in-Some.next (held c.pop.new.self) c.loop-next.reached w.once
 
 pub reach_children-requires : goal.reach_children-requires
 reach_children-requires c =
-    let rows = c.args.rows.now in
-    let order = c.requires.rows_are_well_formed in
+    let rows = c.args.self.now.rows.now in
+    let order = c.args.self.now.well_formed in
     let reached = c.loop-next.reached in
     let w = rw c.in-Some.ensures.takes_the_top_if_any at c.loop-next.invariant.2 in
     record {
       children_are_rows = its_children rows c.in-Some.next no_row (held c.pop.new.self) reached reached order w;
-      rows_fit = (order.few, omega (arith, c.in-Some.ensures.keeps_the_room, c.loop-next.invariant.1, c.in-Ok.ensures.keeps_the_room, c.new-stack.ensures.has_the_room_of_the_row));
+      rows_fit = (order.few, omega (arith, c.args.self.now.has_room, c.in-Some.ensures.keeps_the_room, c.loop-next.invariant.1, c.push.ensures.keeps_the_room, c.new-waiting.ensures.has_the_room_of_the_row));
       each_waits_once = taken_off rows c.in-Some.next no_row (held c.pop.new.self) reached reached order w;
     }
 
@@ -31,13 +31,13 @@ pub loop-next-smaller : goal.loop-next-smaller
 loop-next-smaller c =
     let top = c.in-Some.ensures.takes_the_top_if_any in
     let w = rw top at c.loop-next.invariant.2 in
-    let less = falls c.args.rows.now c.in-Some.next no_row (held c.pop.new.self) c.loop-next.reached c.reach_children.new.reached c.requires.rows_are_well_formed w c.in_ok-reach_children.ensures.children_are_reached in
+    let less = falls c.args.self.now.rows.now c.in-Some.next no_row (held c.pop.new.self) c.loop-next.reached c.reach_children.new.reached c.args.self.now.well_formed w c.in_ok-reach_children.ensures.children_are_reached in
     rw (c.in_ok-reach_children.ensures.children_wait, top) less
 
 pub loop-next-preserved : goal.loop-next-preserved
 loop-next-preserved c =
     let w = rw c.in-Some.ensures.takes_the_top_if_any at c.loop-next.invariant.2 in
-    let more = put_on c.args.rows.now c.in-Some.next no_row (held c.pop.new.self) c.loop-next.reached c.reach_children.new.reached c.requires.rows_are_well_formed w c.in_ok-reach_children.ensures.children_are_reached in (
+    let more = put_on c.args.self.now.rows.now c.in-Some.next no_row (held c.pop.new.self) c.loop-next.reached c.reach_children.new.reached c.args.self.now.well_formed w c.in_ok-reach_children.ensures.children_are_reached in (
       omega arith,
       c.in_ok-reach_children.ensures.keeps_the_room ∙ c.in-Some.ensures.keeps_the_room ∙ c.loop-next.invariant.1,
       rw c.in_ok-reach_children.ensures.children_wait more,
@@ -45,8 +45,8 @@ loop-next-preserved c =
 
 pub returns-in_err-reach_children : goal.returns-in_err-reach_children
 returns-in_err-reach_children c =
-    let rows = c.args.rows.now in
-    let order = c.requires.rows_are_well_formed in
+    let rows = c.args.self.now.rows.now in
+    let order = c.args.self.now.well_formed in
     let w = rw c.in-Some.ensures.takes_the_top_if_any at c.loop-next.invariant.2 in
     let p = err_from_is_err_and c.from_residual.result c.from_residual.ensures.1 in
     let (stop, (k, l, two)) = c.in_err-reach_children.ensures.refuses_a_row_reached_twice in
@@ -57,4 +57,4 @@ returns-in_err-reach_children c =
     })
 
 pub returns : goal.returns
-returns c = record { each_is_reached_once = ended c.args.rows.now c.loop-next.reached (rw c.in_default-pop.ensures.takes_the_top_if_any.0 at c.loop-next.invariant.2); refuses_what_describes_no_cabling = tt }
+returns c = record { each_is_reached_once = ended c.args.self.now.rows.now c.loop-next.reached (rw c.in_default.ensures.takes_the_top_if_any.0 at c.loop-next.invariant.2); refuses_what_describes_no_cabling = tt }
