@@ -1,5 +1,7 @@
 -- The number of each flaw that a quadlet can have.
 use Rattle.std.specs.Prelude.{ℕ}
+use Rattle.selfid.specs.declared.packet.PacketFlaw.{PacketFlaw}
+use Rattle.selfid.specs.declared.packet.PacketFlaw.TheVariants.{NotSelfId as HasOtherTopBits, ReservedBit as HasReservedBit}
 use Rattle.judging.specs.declared.flaw.Flaw.{Flaw}
 use Rattle.judging.specs.declared.flaw.Flaw.TheVariants.{AlreadyWhole, NotInverse, NotSelfId, ReservedBit, WrongNumber, OutOfTurn, EmptyExtension, SecondUp, TooManyDown, LooseEndLeft, NoCabling}
 
@@ -15,3 +17,8 @@ flaw_number SecondUp = 8
 flaw_number TooManyDown = 9
 flaw_number LooseEndLeft = 10
 flaw_number NoCabling = 11
+
+-- The flaw of a word that is no packet.
+abbrev pub flaw_of_packet : PacketFlaw → Flaw
+flaw_of_packet HasOtherTopBits = NotSelfId
+flaw_of_packet HasReservedBit = ReservedBit

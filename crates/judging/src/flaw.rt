@@ -1,22 +1,24 @@
 //! What can be wrong with a quadlet.
 
 ghost use Rattle.std.specs.Prelude.{◌≡◌};
-ghost use Rattle.judging.specs.Stops.{flaw_number};
+ghost use Rattle.judging.specs.Stops.{flaw_number, flaw_of_packet};
 
-// Why a quadlet is turned away, in the order of the tests.
-#[derive(Clone, Copy)]
+use selfid::packet::PacketFlaw;
+
+// Why a quadlet is turned away, in the order of the tests. Each flaw stands with its number.
+#[derive(Clone, Copy, Debug, PartialEq, Eq)]
 pub enum Flaw {
-    AlreadyWhole,
-    NotInverse,
-    NotSelfId,
-    ReservedBit,
-    WrongNumber,
-    OutOfTurn,
-    EmptyExtension,
-    SecondUp,
-    TooManyDown,
-    LooseEndLeft,
-    NoCabling,
+    AlreadyWhole = 1,
+    NotInverse = 2,
+    NotSelfId = 3,
+    ReservedBit = 4,
+    WrongNumber = 5,
+    OutOfTurn = 6,
+    EmptyExtension = 7,
+    SecondUp = 8,
+    TooManyDown = 9,
+    LooseEndLeft = 10,
+    NoCabling = 11,
 }
 
 impl Flaw {
@@ -24,18 +26,18 @@ impl Flaw {
     pub fn number(self) -> u8
         ensures is_its_number { result ≡ flaw_number self }
     {
-        match self {
-            Flaw::AlreadyWhole => 1,
-            Flaw::NotInverse => 2,
-            Flaw::NotSelfId => 3,
-            Flaw::ReservedBit => 4,
-            Flaw::WrongNumber => 5,
-            Flaw::OutOfTurn => 6,
-            Flaw::EmptyExtension => 7,
-            Flaw::SecondUp => 8,
-            Flaw::TooManyDown => 9,
-            Flaw::LooseEndLeft => 10,
-            Flaw::NoCabling => 11,
+        self as u8
+    }
+}
+
+// A word that is no packet is a flawed quadlet.
+impl From<PacketFlaw> for Flaw {
+    ghost from_gives = { λ word quadlet. quadlet ≡ flaw_of_packet word };
+
+    fn from(flaw: PacketFlaw) -> Flaw {
+        match flaw {
+            PacketFlaw::NotSelfId => Flaw::NotSelfId,
+            PacketFlaw::ReservedBit => Flaw::ReservedBit,
         }
     }
 }

@@ -1,3 +1,4 @@
+pub mod Codes
 pub mod Same
 pub mod Digits
 pub mod Trips

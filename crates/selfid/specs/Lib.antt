@@ -1,4 +1,5 @@
 -- The subject: marks, speeds, packet words, nodes, cablings and what they announce.
+pub mod Codes
 pub mod Marks
 pub mod Speeds
 pub mod Packets

@@ -14,6 +14,11 @@ bit false = 0
 abbrev pub code_at : List Mark → ℕ → ℕ
 code_at ms i = mark_code (slice_index_or ms i Absent)
 
+-- A number with the codes of marks behind it, two bits for each.
+abbrev pub packed_onto : ℕ → List Mark → ℕ
+packed_onto n [] = n
+packed_onto n (m ∷ ms) = packed_onto (n * 4 + mark_code m) ms
+
 -- Packet zero of node n, below 64, with the fields x, where ms are the marks of the ports from port 0 on: it has the first three.
 abbrev pub zero_word : (n : ℕ) → Fields → List Mark → (more : Bool) → ℕ
 zero_word n x ms more =

@@ -1,5 +1,5 @@
 -- A word read as a packet, field by field, and why a word is none.
-use Rattle.std.specs.Prelude.{ℕ, ◌+◌, ◌-◌, ◌/◌, ◌%◌, ◌^◌, Bool, true, cond, not, ◌&&◌, ◌||◌, [], ◌∷◌, drop, Ok, Err, Result, ◌==◌}
+use Rattle.std.specs.Prelude.{ℕ, zero, suc, ◌+◌, ◌-◌, ◌*◌, ◌/◌, ◌%◌, ◌^◌, Bool, true, cond, not, ◌&&◌, ◌||◌, List, [], ◌∷◌, drop, Ok, Err, Result, ◌==◌}
 use Rattle.std.proofs.Common.{lit<}
 use Rattle.std.proofs.lemmas.Nat.{mod_below}
 use Rattle.selfid.specs.declared.mark.Mark.{Mark}
@@ -29,6 +29,11 @@ bits high low q = q / 2 ^ low % 2 ^ (high + 1 - low)
 -- The mark in two bits.
 abbrev pub mark_in : ℕ → Mark
 mark_in n = cond (n == 0) Absent (cond (n == 1) Open (cond (n == 2) Up Down))
+
+-- The marks in the n pairs of bits of which the last are bits 3-2.
+abbrev pub marks_from : (n : ℕ) → ℕ → List Mark
+marks_from zero q = []
+marks_from (suc n) q = mark_in (q / 2 ^ (2 * suc n) % 4) ∷ marks_from n q
 
 -- The speed in two bits that are not 3.
 abbrev pub speed_in : ℕ → Speed

@@ -1,67 +1,50 @@
 //! Packets as words of 32 bits, both ways.
 
-ghost use Rattle.std.specs.Prelude.{◌≡◌, ◌+◌, ◌/◌, ◌%◌, ◌^◌, ◌<◌, ◌≤◌, IfOk, if◌then◌else◌, Ok, Err};
+ghost use Rattle.std.specs.Prelude.{◌≡◌, ◌+◌, ◌*◌, ◌/◌, ◌%◌, ◌^◌, ◌<◌, ◌≤◌, ◌==◌, length, IfOk, if◌then◌else◌, Ok, Err};
 ghost use Rattle.selfid.specs.declared.packet.PacketFlaw.TheVariants.{ReservedBit};
-ghost use Rattle.selfid.specs.Marks.{mark_code};
-ghost use Rattle.selfid.specs.Packets.{bit, zero_word, extension_word, inverse_of};
-ghost use Rattle.selfid.specs.Reading.{word_of, mark_in, speed_in, fields_in, extension_in, reserved_set, read_zero, read_extension, packet_in, marks_existing_ports};
-ghost use Rattle.selfid.specs.Stops.{flaw_number};
+ghost use Rattle.selfid.specs.Packets.{packed_onto, zero_word, extension_word, inverse_of};
+ghost use Rattle.selfid.specs.Reading.{word_of, marks_from, speed_in, fields_in, extension_in, reserved_set, read_zero, read_extension, packet_in, marks_existing_ports};
 
 use crate::mark::Mark;
 use crate::node::Fields;
 use crate::packet::{Extension, Packet, PacketFlaw, PacketZero};
 use crate::speed::Speed;
 
-fn flag(set: bool) -> u32
-    ensures is_one_bit { result ≡ bit set }
-    ensures fits { result < 2 }
+// The codes of the marks, two bits each, the last mark lowest.
+fn packed(marks: &[Mark]) -> u32
+    requires few_marks { length marks.now ≤ 8 }
+    ensures has_two_bits_for_each_mark { result ≡ packed_onto 0 marks.now }
+    ensures fits { result < 2 ^ (2 * length marks.now) }
 {
-    if set { 1 } else { 0 }
-}
-
-fn two_bits(mark: Mark) -> u32
-    ensures is_the_code { result ≡ mark_code mark }
-    ensures fits { result < 4 }
-{
-    mark.code() as u32
+    let mut word = 0;
+    for mark in marks {
+        word = word * 4 + u32::from(u8::from(*mark));
+    }
+    word
 }
 
 fn encode_zero(packet: PacketZero) -> u32
     ensures is_the_word { result ≡ zero_word packet.number packet.fields packet.marks packet.more }
 {
-    let PacketZero {
-        number,
-        fields,
-        marks: [a, b, c],
-        more,
-    } = packet;
-    let node = (2 << 30) + ((number as u32) << 24);
-    let numbers = ((fields.gap as u32) << 16)
-        + ((fields.speed.code() as u32) << 14)
-        + ((fields.power as u32) << 8);
-    let flags = (flag(fields.link) << 22)
-        + (flag(fields.contender) << 11)
-        + (flag(fields.initiator) << 1)
-        + flag(more);
-    node + numbers + flags + (two_bits(a) << 6) + (two_bits(b) << 4) + (two_bits(c) << 2)
+    let fields = packet.fields;
+    let node = (2 << 30) + (u32::from(packet.number) << 24);
+    let numbers = (u32::from(fields.gap) << 16)
+        + (u32::from(u8::from(fields.speed)) << 14)
+        + (u32::from(fields.power) << 8);
+    let flags = (u32::from(fields.link) << 22)
+        + (u32::from(fields.contender) << 11)
+        + (u32::from(fields.initiator) << 1)
+        + u32::from(packet.more);
+    node + numbers + flags + (packed(&packet.marks) << 2)
 }
 
 fn encode_extension(packet: Extension) -> u32
     ensures is_the_word { result ≡ extension_word packet.number packet.turn packet.marks packet.more }
 {
-    let Extension {
-        number,
-        turn,
-        marks: [a, b, c, d, e, f, g, h],
-        more,
-    } = packet;
-    let node = (2 << 30) + ((number as u32) << 24) + (1 << 23) + ((turn as u32) << 20);
-    let first = (two_bits(a) << 16)
-        + (two_bits(b) << 14)
-        + (two_bits(c) << 12)
-        + (two_bits(d) << 10);
-    let last = (two_bits(e) << 8) + (two_bits(f) << 6) + (two_bits(g) << 4) + (two_bits(h) << 2);
-    node + first + last + flag(more)
+    let node = (2 << 30) + (u32::from(packet.number) << 24);
+    let turn = (1 << 23) + (u32::from(packet.turn) << 20);
+    let marks = packed(&packet.marks) << 2;
+    node + turn + marks + u32::from(packet.more)
 }
 
 // The `width` bits of a word from bit `low` up, as a number.
@@ -72,16 +55,24 @@ fn field(word: u32, low: u32, width: u32) -> u32
     (word >> low) & ((1 << width) - 1)
 }
 
-fn mark_at(word: u32, low: u32) -> Mark
-    requires within_the_word { low ≤ 30 }
-    ensures is_the_mark_in_these_bits { result ≡ mark_in (word / 2 ^ low % 4) }
+// Is this bit of a word set?
+fn is_set(word: u32, place: u32) -> bool
+    requires within_the_word { place < 32 }
+    ensures tells_if_it_is { result ≡ (word / 2 ^ place % 2 == 1) }
 {
-    match field(word, low, 2) {
-        0 => Mark::Absent,
-        1 => Mark::Open,
-        2 => Mark::Up,
-        _ => Mark::Down,
+    field(word, place, 1) == 1
+}
+
+// The marks in so many pairs of bits, of which the last are bits 3-2.
+fn marks_in<const N: usize>(word: u32) -> [Mark; N]
+    requires within_the_word { N ≤ 15 }
+    ensures are_the_marks_in_these_pairs { result ≡ marks_from N word }
+{
+    let mut marks = [Mark::Absent; N];
+    for (i, mark) in marks.iter_mut().enumerate() {
+        *mark = Mark::try_from(field(word, 2 * (N - i) as u32, 2) as u8).unwrap();
     }
+    marks
 }
 
 // The fields in packet zero. Its speed is read first, since not every code stands for one.
@@ -90,9 +81,9 @@ fn fields_in(word: u32, speed: Speed) -> Fields
     ensures are_the_fields_in_it { result ≡ fields_in word }
 {
     Fields {
-        link: field(word, 22, 1) == 1,
-        contender: field(word, 11, 1) == 1,
-        initiator: field(word, 1, 1) == 1,
+        link: is_set(word, 22),
+        contender: is_set(word, 11),
+        initiator: is_set(word, 1),
         gap: field(word, 16, 6) as u8,
         speed,
         power: field(word, 8, 3) as u8,
@@ -105,14 +96,12 @@ fn decode_zero(word: u32) -> Result<Packet, PacketFlaw>
     if field(word, 12, 2) != 0 {
         return Err(PacketFlaw::ReservedBit);
     }
-    let Some(speed) = Speed::from_code(field(word, 14, 2) as u8) else {
-        return Err(PacketFlaw::ReservedBit);
-    };
+    let speed = Speed::try_from(field(word, 14, 2) as u8).map_err(|_| PacketFlaw::ReservedBit)?;
     Ok(Packet::Zero(PacketZero {
         number: field(word, 24, 6) as u8,
         fields: fields_in(word, speed),
-        marks: [mark_at(word, 6), mark_at(word, 4), mark_at(word, 2)],
-        more: field(word, 0, 1) == 1,
+        marks: marks_in(word),
+        more: is_set(word, 0),
     }))
 }
 
@@ -121,7 +110,7 @@ fn has_reserved_bit(word: u32) -> bool
     ensures tells_if_one_is_set { result ≡ reserved_set word }
 {
     field(word, 18, 2) != 0
-        || field(word, 1, 1) != 0
+        || is_set(word, 1)
         || (field(word, 20, 3) == 1 && field(word, 2, 6) != 0)
 }
 
@@ -131,17 +120,8 @@ fn extension_in(word: u32) -> Extension
     Extension {
         number: field(word, 24, 6) as u8,
         turn: field(word, 20, 3) as u8,
-        marks: [
-            mark_at(word, 16),
-            mark_at(word, 14),
-            mark_at(word, 12),
-            mark_at(word, 10),
-            mark_at(word, 8),
-            mark_at(word, 6),
-            mark_at(word, 4),
-            mark_at(word, 2),
-        ],
-        more: field(word, 0, 1) == 1,
+        marks: marks_in(word),
+        more: is_set(word, 0),
     }
 }
 
@@ -174,22 +154,10 @@ impl Packet {
     {
         if field(word, 30, 2) != 2 {
             Err(PacketFlaw::NotSelfId)
-        } else if field(word, 23, 1) == 1 {
+        } else if is_set(word, 23) {
             decode_extension(word)
         } else {
             decode_zero(word)
-        }
-    }
-}
-
-impl PacketFlaw {
-    // The number of the stop.
-    pub fn number(self) -> u8
-        ensures is_its_number { result ≡ flaw_number self }
-    {
-        match self {
-            PacketFlaw::NotSelfId => 3,
-            PacketFlaw::ReservedBit => 4,
         }
     }
 }

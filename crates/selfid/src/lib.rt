@@ -3,6 +3,7 @@
 
 #![tactic(auto)]
 
+pub mod code;
 pub mod codec;
 pub mod mark;
 pub mod node;

@@ -1,6 +1,7 @@
 //! A self-ID packet, taken apart.
 
-ghost use Rattle.std.specs.Prelude.{◌<◌};
+ghost use Rattle.std.specs.Prelude.{◌≡◌, ◌<◌};
+ghost use Rattle.selfid.specs.Stops.{flaw_number};
 
 use crate::mark::Mark;
 use crate::node::{Fields, PORT_LIMIT};
@@ -43,8 +44,18 @@ pub enum Packet {
 }
 
 // Why a word is no packet: its top bits are not those of a self-ID packet; or a reserved bit is set, or packet zero has the speed code 3.
-#[derive(Clone, Copy)]
+// Each flaw stands with its number.
+#[derive(Clone, Copy, Debug, PartialEq, Eq)]
 pub enum PacketFlaw {
-    NotSelfId,
-    ReservedBit,
+    NotSelfId = 3,
+    ReservedBit = 4,
+}
+
+impl PacketFlaw {
+    // The number of the stop.
+    pub fn number(self) -> u8
+        ensures is_its_number { result ≡ flaw_number self }
+    {
+        self as u8
+    }
 }

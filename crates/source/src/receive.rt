@@ -1,10 +1,9 @@
 //! The row of words into which a controller receives: the first is its own header, the others are the quadlets.
 
 ghost use Rattle.std.specs.Prelude.{◌≡◌, ◌<◌, length, drop, IfOk, MatchResult};
-ghost use Rattle.source.specs.declared.Ending.TheVariants.{Clean};
 ghost use Rattle.source.specs.Received.{not_drawn_yet, end_of_the_row, no_header_number};
 
-use crate::{Drawn, Source};
+use crate::{Source, SourceStop};
 
 // The words of a receive buffer that were not drawn yet.
 #[derive(Drop)]
@@ -13,7 +12,7 @@ pub struct ReceiveBuffer<'a> {
 }
 
 // The row of words is empty, so that it has no header.
-#[derive(Clone, Copy)]
+#[derive(Clone, Copy, Debug, PartialEq, Eq)]
 pub struct NoHeader;
 
 impl NoHeader {
@@ -31,10 +30,8 @@ impl<'a> ReceiveBuffer<'a> {
         ensures refuses_only_an_empty_row { MatchResult result (λ _. 0 < length words.now) (λ _. length words.now ≡ 0) }
         ensures holds_what_is_behind_the_header { IfOk result (λ b. not_drawn_yet b ≡ drop 1 words.now) }
     {
-        if words.len() == 0 {
-            return Err(NoHeader);
-        }
-        Ok(ReceiveBuffer { words: &words[1..] })
+        let behind = words.get(1..).ok_or(NoHeader)?;
+        Ok(ReceiveBuffer { words: behind })
     }
 }
 
@@ -43,12 +40,11 @@ impl<'a> Source for ReceiveBuffer<'a> {
 
     ghost ending = { end_of_the_row };
 
-    fn draw(&mut self) -> Drawn {
-        if self.words.len() == 0 {
-            return Drawn::Ended;
-        }
-        let first = self.words[0];
-        self.words = &self.words[1..];
-        Drawn::Quadlet(first)
+    fn draw(&mut self) -> Result<Option<u32>, SourceStop> {
+        let Some((first, rest)) = self.words.split_first() else {
+            return Ok(None);
+        };
+        self.words = rest;
+        Ok(Some(*first))
     }
 }

@@ -6,7 +6,7 @@ ghost use Rattle.stack.specs.Held.{held, room};
 use super::Stack;
 
 // The stack has no room for another element.
-#[derive(Clone, Copy)]
+#[derive(Clone, Copy, Debug, PartialEq, Eq)]
 pub struct Full;
 
 impl<'a, T: Copy> Stack<'a, T> {
@@ -38,10 +38,7 @@ impl<'a, T: Copy> Stack<'a, T> {
         ensures takes_the_top_if_any { MatchOption result ((held self.old ≡ []) × (held self.new ≡ [])) (λ x. held self.old ≡ x ∷ held self.new) }
         ensures keeps_the_room { room self.new ≡ room self.old }
     {
-        if self.len == 0 {
-            return None;
-        }
-        self.len -= 1;
+        self.len = self.len.checked_sub(1)?;
         Some(self.row[self.len])
     }
 }

@@ -9,42 +9,43 @@ use judging::flaw::Flaw;
 use source::SourceStop;
 
 // What spoiled a gathering: the flaw of the quadlet that it turned away, and the place, which is the count of quadlets taken before it.
-#[derive(Clone, Copy)]
+#[derive(Clone, Copy, Debug, PartialEq, Eq)]
 pub struct Spoil {
     pub flaw: Flaw,
     pub place: usize,
 }
 
 // A quadlet is turned away: for a flaw, and this is its place; or as the gathering was spoiled before, by the quadlet at that place.
-#[derive(Clone, Copy)]
+#[derive(Clone, Copy, Debug, PartialEq, Eq)]
 pub enum QuadletStop {
     Flawed(Spoil),
     Spoiled(usize),
 }
 
+// (It has the shape of the stop of a quadlet, but its second case tells another thing: one type for both would need a number to tell them apart.)
 // Why a record is void: a flawed quadlet spoiled the gathering, or the announcement was not whole after so many quadlets.
-#[derive(Clone, Copy)]
+#[derive(Clone, Copy, Debug, PartialEq, Eq)]
 pub enum Cause {
     SpoiledBy(Spoil),
     NotWhole(usize),
 }
 
-// A question is refused: there is no such node or port, or the record is void.
-#[derive(Clone, Copy)]
+// A question is refused: there is no such node or port, or the record is void. Each refusal stands with its number.
+#[derive(Clone, Copy, Debug, PartialEq, Eq)]
 pub enum QuestionStop {
-    NoneSuch,
-    Void,
+    NoneSuch = 12,
+    Void = 33,
 }
 
 // The layer that a fill's stop comes from.
-#[derive(Clone, Copy)]
+#[derive(Clone, Copy, Debug, PartialEq, Eq)]
 pub enum Layer {
     Survey,
     Source,
 }
 
 // A fill took so many quadlets, and then the survey turned one away or the source stopped.
-#[derive(Clone, Copy)]
+#[derive(Clone, Copy, Debug, PartialEq, Eq)]
 pub enum FillStop {
     Survey(usize, QuadletStop),
     Source(usize, SourceStop),
@@ -99,10 +100,7 @@ impl QuestionStop {
     pub fn number(self) -> u8
         ensures is_its_number { result ≡ question_number self }
     {
-        match self {
-            QuestionStop::NoneSuch => 12,
-            QuestionStop::Void => 33,
-        }
+        self as u8
     }
 }
 
@@ -112,8 +110,7 @@ impl FillStop {
         ensures is_the_count_taken { result ≡ fill_count self }
     {
         match self {
-            FillStop::Survey(count, _) => count,
-            FillStop::Source(count, _) => count,
+            FillStop::Survey(count, _) | FillStop::Source(count, _) => count,
         }
     }
 
