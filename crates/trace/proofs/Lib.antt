@@ -1,6 +1,4 @@
 pub mod Cuts
-pub mod Pieces
 pub mod Values
-pub mod Passing
 pub mod Firsts
-pub mod Waiting
+pub mod Passing

@@ -1,27 +1,17 @@
 -- The lines of a trace, what kind of line each is, and the words of a words line.
 use Rattle.std.specs.Prelude.{ℕ, ◌+◌, ◌-◌, ◌*◌, Bool, true, cond, ◌&&◌, List, [], ◌∷◌, map, length, is_some, Some, None, codes, Option, ◌==◌, nat_le, nat_lt}
+use Rattle.std.specs.List.{fold, list_all, onto_first, slice_split}
 use Rattle.std.specs.Option.{unwrap_or}
 use Rattle.std.specs.Str.{bytes_eq}
-
--- The byte in front of the first piece.
-abbrev pub onto : ℕ → List (List ℕ) → List (List ℕ)
-onto byte [] = (byte ∷ []) ∷ []
-onto byte (piece ∷ pieces) = (byte ∷ piece) ∷ pieces
 
 -- The lines, each without its byte 10; the last may lack one.
 abbrev pub lines_of : List ℕ → List (List ℕ)
 lines_of [] = []
-lines_of (byte ∷ bytes) = cond (byte == 10) ([] ∷ lines_of bytes) (onto byte (lines_of bytes))
+lines_of (byte ∷ bytes) = cond (byte == 10) ([] ∷ lines_of bytes) (onto_first byte (lines_of bytes))
 
 -- What stands before, between and behind the spaces of a line.
 abbrev pub pieces_of : List ℕ → List (List ℕ)
-pieces_of [] = [] ∷ []
-pieces_of (byte ∷ bytes) = cond (byte == 32) ([] ∷ pieces_of bytes) (onto byte (pieces_of bytes))
-
--- All elements pass the test.
-abbrev pub every : {X : Type 0} → (X → Bool) → List X → Bool
-every test [] = true
-every test (x ∷ xs) = test x && every test xs
+pieces_of bytes = slice_split (λ byte. byte == 32) bytes
 
 -- The byte is in this range, both ends included.
 abbrev pub within : ℕ → ℕ → ℕ → Bool
@@ -36,18 +26,17 @@ digit_of byte =
 abbrev pub is_digit : ℕ → Bool
 is_digit byte = is_some (digit_of byte)
 
--- The value of hexadecimal digits behind others of this value.
-abbrev pub value_from : ℕ → List ℕ → ℕ
-value_from before [] = before
-value_from before (byte ∷ bytes) = value_from (before * 16 + unwrap_or (digit_of byte) 0) bytes
+-- The value of hexadecimal digits of this value with one more behind them.
+abbrev pub and_digit : ℕ → ℕ → ℕ
+and_digit before byte = before * 16 + unwrap_or (digit_of byte) 0
 
 -- The value of hexadecimal digits, the highest first.
 abbrev pub word_value : List ℕ → ℕ
-word_value = value_from 0
+word_value bytes = fold and_digit 0 bytes
 
 -- A word is eight hexadecimal digits.
 abbrev pub is_word : List ℕ → Bool
-is_word bytes = length bytes == 8 && every is_digit bytes
+is_word bytes = length bytes == 8 && list_all is_digit bytes
 
 -- A note is empty or begins with `#`.
 abbrev pub is_note_line : List ℕ → Bool
@@ -60,7 +49,7 @@ is_reset_line bytes = bytes_eq bytes (codes "reset")
 
 -- A words line has a word before, between and behind its spaces.
 abbrev pub is_words_line : List ℕ → Bool
-is_words_line bytes = every is_word (pieces_of bytes)
+is_words_line bytes = list_all is_word (pieces_of bytes)
 
 -- The words of a words line.
 abbrev pub words_of : List ℕ → List ℕ

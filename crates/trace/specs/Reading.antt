@@ -1,8 +1,8 @@
 -- What a reader has left, and what it tells of the next line.
-use Rattle.std.specs.Prelude.{ℕ, ◌+◌, Bool, true, false, cond, List, [], ◌∷◌}
+use Rattle.std.specs.Prelude.{◌≡◌, ℕ, ◌+◌, Bool, true, false, cond, List, [], ◌∷◌, length, drop, Option, None, Some, Result, Ok, Err}
 use Rattle.trace.specs.declared.reader.Reader.{Reader}
 use Rattle.trace.specs.declared.token.Token.{Token}
-use Rattle.trace.specs.declared.token.Token.TheVariants.{Note, Reset, Words, Bad, End}
+use Rattle.trace.specs.declared.token.Token.TheVariants.{Note, Reset, Words}
 use Rattle.trace.specs.declared.token.TraceStop.{TraceStop}
 use Rattle.trace.specs.declared.token.TraceStop.TheVariants.{LongLine, Malformed}
 use Rattle.trace.specs.Lines.{Kind, note, reset, words, too_long, malformed, kind_of, is_reset_line, lines_of}
@@ -15,7 +15,7 @@ lines_left reader = lines_of reader.rest.now
 abbrev pub lines_before : Reader → ℕ
 lines_before reader = reader.lines_read
 
--- A token by its bytes: a line that can be read with its number, a stop, or the end.
+-- What a reader tells, by its bytes: a line that can be read with its number, a stop, or the end.
 pub data Told : Type 0 where
   a_note : List ℕ → ℕ → Told
   a_reset : List ℕ → ℕ → Told
@@ -23,13 +23,13 @@ pub data Told : Type 0 where
   a_stop : TraceStop → Told
   the_end : Told
 
--- What a token tells.
-abbrev pub told : Token → Told
-told (Note line place) = a_note line.now place
-told (Reset line place) = a_reset line.now place
-told (Words line place) = some_words line.now place
-told (Bad stop) = a_stop stop
-told End = the_end
+-- What a call tells.
+abbrev pub told : Option (Result Token TraceStop) → Told
+told None = the_end
+told (Some (Err stop)) = a_stop stop
+told (Some (Ok (Note line place))) = a_note line.now place
+told (Some (Ok (Reset line place))) = a_reset line.now place
+told (Some (Ok (Words line place))) = some_words line.now place
 
 -- What is told of a line of this kind, its bytes and its number.
 abbrev pub told_of : Kind → List ℕ → ℕ → Told
@@ -43,6 +43,12 @@ told_of malformed bytes place = a_stop (Malformed place)
 abbrev pub first_told : ℕ → List (List ℕ) → Told
 first_told before [] = the_end
 first_told before (first ∷ others) = told_of (kind_of first) first (before + 1)
+
+-- A call that reads a line: it tells the first that is left, leaves the others, and counts it.
+pub record ReadsOne (before : Reader) (line : Option (Result Token TraceStop)) (after : Reader) : Type 0 where
+  pub tells_the_first_line : told line ≡ first_told (lines_before before) (lines_left before)
+  pub leaves_the_others : lines_left after ≡ drop 1 (lines_left before)
+  pub counts_the_lines_passed : lines_before after + length (lines_left after) ≡ lines_before before + length (lines_left before)
 
 -- One of the lines is `reset`.
 abbrev pub has_reset : List (List ℕ) → Bool

@@ -1,5 +1,6 @@
 -- The number of each stop of a trace, and its place.
 use Rattle.std.specs.Prelude.{ℕ}
+use Rattle.source.specs.declared.SourceStop.{SourceStop}
 use Rattle.trace.specs.declared.token.TraceStop.{TraceStop}
 use Rattle.trace.specs.declared.token.TraceStop.TheVariants.{LongLine, Malformed}
 
@@ -12,3 +13,7 @@ trace_stop_number (Malformed place) = 21
 abbrev pub trace_stop_place : TraceStop → ℕ
 trace_stop_place (LongLine place) = place
 trace_stop_place (Malformed place) = place
+
+-- The same stop as any source tells it, by number and place.
+abbrev pub as_source_stop : TraceStop → SourceStop
+as_source_stop stop = record { number = trace_stop_number stop; place = trace_stop_place stop }

@@ -8,6 +8,7 @@ fn digit_value(byte: u8) -> Option<u8>
     ensures is_the_value_of_a_digit { result ≡ digit_of byte }
     ensures is_below_16 { IfSome result (λ d. d < 16) }
 {
+    // A trace is text, so each byte is matched as a char, and either case of a digit by its own letters.
     match byte as char {
         '0'..='9' => Some(byte - b'0'),
         'A'..='F' => Some(byte - b'A' + 10),
@@ -22,24 +23,19 @@ pub(crate) fn cut_line(bytes: &[u8]) -> (&[u8], &[u8])
     ensures cuts_at_the_first_line_feed { lines_of bytes.now ≡ result.0.now ∷ lines_of result.1.now }
     ensures leaves_fewer { length result.1.now < length bytes.now }
 {
-    for i in 0..bytes.len() {
-        if bytes[i] == b'\n' {
-            return (&bytes[..i], &bytes[i + 1..]);
-        }
+    match bytes.iter().position(|byte| *byte == b'\n') {
+        Some(end) => (&bytes[..end], &bytes[end + 1..]),
+        None => (bytes, &[]),
     }
-    (bytes, &[])
 }
 
 // Is the line a note: empty, or with the note sign first?
 pub(crate) fn is_note(line: &[u8]) -> bool
     ensures tells_if_it_is { result ≡ is_note_line line.now }
 {
-    if line.len() == 0 {
-        return true;
-    }
-    match line[0] as char {
-        '#' => true,
-        _ => false,
+    match line {
+        [] => true,
+        [byte, ..] => *byte as char == '#',
     }
 }
 
@@ -50,28 +46,18 @@ pub(crate) fn is_reset(line: &[u8]) -> bool
     line == b"reset".as_slice()
 }
 
-// Is the line words of eight digits with one space between?
+// Is the piece of a line a word: eight digits?
+fn is_word(piece: &[u8]) -> bool
+    ensures tells_if_it_is { result ≡ is_word piece.now }
+{
+    piece.len() == 8 && piece.iter().all(|byte| digit_value(*byte).is_some())
+}
+
+// Is the line words with one space between?
 pub(crate) fn is_words(line: &[u8]) -> bool
     ensures tells_if_it_is { result ≡ is_words_line line.now }
 {
-    let mut digits: usize = 0;
-    for byte in line {
-        match *byte as char {
-            ' ' => {
-                if digits != 8 {
-                    return false;
-                }
-                digits = 0;
-            }
-            _ => {
-                if digit_value(*byte).is_none() {
-                    return false;
-                }
-                digits += 1;
-            }
-        }
-    }
-    digits == 8
+    line.split(|byte| *byte as char == ' ').all(is_word)
 }
 
 // The word that eight digits tell, the highest first.
@@ -81,10 +67,7 @@ pub(crate) fn read_word(digits: &[u8]) -> u32
 {
     let mut value: u32 = 0;
     for byte in digits {
-        match digit_value(*byte) {
-            Some(digit) => value = value * 16 + digit as u32,
-            None => unreachable(),
-        }
+        value = value * 16 + u32::from(digit_value(*byte).unwrap());
     }
     value
 }
@@ -95,9 +78,10 @@ pub(crate) fn cut_word(line: &[u8]) -> (u32, &[u8])
     ensures gives_the_first_word { words_of line.now ≡ result.0 ∷ words_left result.1.now }
     ensures leaves_the_others { are_words_left result.1.now ≡ true }
 {
-    let word = read_word(&line[..8]);
-    if line.len() < 9 {
-        return (word, &[]);
+    let (digits, behind) = line.split_at(8);
+    let word = read_word(digits);
+    match behind {
+        [] => (word, behind),
+        [_, others @ ..] => (word, others),
     }
-    (word, &line[9..])
 }

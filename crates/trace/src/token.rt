@@ -1,21 +1,20 @@
 //! What a line of a trace tells, and why it may not be readable.
 
 ghost use Rattle.std.specs.Prelude.{◌≡◌};
-ghost use Rattle.trace.specs.Stops.{trace_stop_number, trace_stop_place};
+ghost use Rattle.trace.specs.Stops.{as_source_stop, trace_stop_number, trace_stop_place};
 
-// What stands next in a trace: a line that can be read, without its byte 10, with its number; a line that cannot; or the end.
-// Lines are numbered from 1 over the whole trace.
+use source::SourceStop;
+
+// A line of a trace that can be read, without its byte 10, with its number. Lines are numbered from 1 over the whole trace.
 #[derive(Clone, Copy)]
 pub enum Token<'a> {
     Note { line: &'a [u8], place: usize },
     Reset { line: &'a [u8], place: usize },
     Words { line: &'a [u8], place: usize },
-    Bad(TraceStop),
-    End,
 }
 
 // The line of this number is over 255 bytes, or it is no note, no reset line and no words line.
-#[derive(Clone, Copy)]
+#[derive(Clone, Copy, Debug, PartialEq, Eq)]
 pub enum TraceStop {
     LongLine(usize),
     Malformed(usize),
@@ -38,6 +37,17 @@ impl TraceStop {
     {
         match self {
             TraceStop::LongLine(place) | TraceStop::Malformed(place) => place,
+        }
+    }
+}
+
+impl From<TraceStop> for SourceStop {
+    ghost from_gives = { λ stop made. made ≡ as_source_stop stop };
+
+    fn from(stop: TraceStop) -> SourceStop {
+        SourceStop {
+            number: stop.number(),
+            place: stop.place(),
         }
     }
 }

@@ -1,40 +1,32 @@
 //! The calls of a trace source.
 
-ghost use Rattle.std.specs.Prelude.{◌≡◌, true, [], ◌++◌, IfOk, IfErr, MatchResult};
-ghost use Rattle.trace.specs.Lines.{is_words_line, words_of};
+ghost use Rattle.std.specs.Prelude.{◌≡◌};
 ghost use Rattle.trace.specs.Reading.{lines_before, lines_left};
-ghost use Rattle.trace.specs.Recorded.{ending_in, recorded_ending, recorded_words, waiting_in};
+ghost use Rattle.trace.specs.Recorded.{FindsWords, ending_in, recorded_ending, recorded_words, waiting_in};
 
 use super::TraceSource;
 use crate::lines::cut_word;
 use crate::reader::Reader;
 use crate::token::Token;
-use source::{Drawn, Ending, Source, SourceStop};
+use source::{Source, SourceStop};
 
 // Passes over notes and the words line behind them, and gives that line. At a reset, a bad line or the end it stays, and tells how the source ends.
-fn find_words<'a>(reader: &mut Reader<'a>) -> Result<&'a [u8], Ending>
-    ensures gives_a_words_line { IfOk result (λ line. is_words_line line.now ≡ true) }
-    ensures gives_the_first_that_waits { MatchResult result (λ line. waiting_in (lines_left reader.old) ≡ words_of line.now ++ waiting_in (lines_left reader.new)) (λ _. (waiting_in (lines_left reader.old) ≡ []) × (waiting_in (lines_left reader.new) ≡ [])) }
+fn find_words<'a>(reader: &mut Reader<'a>) -> Result<Option<&'a [u8]>, SourceStop>
+    ensures gives_the_first_that_waits_or_the_ending { FindsWords reader.old result reader.new }
     ensures keeps_the_ending { ending_in (lines_before reader.new) (lines_left reader.new) ≡ ending_in (lines_before reader.old) (lines_left reader.old) }
-    ensures tells_the_ending { IfErr result (λ e. e ≡ ending_in (lines_before reader.old) (lines_left reader.old)) }
 {
-    loop {
-        let mut ahead = *reader;
-        match ahead.next() {
+    let mut ahead = *reader;
+    while let Some(line) = ahead.next() {
+        match line? {
             Token::Note { .. } => *reader = ahead,
             Token::Words { line, .. } => {
                 *reader = ahead;
-                return Ok(line);
+                return Ok(Some(line));
             }
-            Token::Reset { .. } | Token::End => return Err(Ending::Clean),
-            Token::Bad(stop) => {
-                return Err(Ending::Stopped(SourceStop {
-                    number: stop.number(),
-                    place: stop.place(),
-                }));
-            }
+            Token::Reset { .. } => return Ok(None),
         }
     }
+    Ok(None)
 }
 
 impl<'a> TraceSource<'a> {
@@ -53,18 +45,15 @@ impl<'a> Source for TraceSource<'a> {
 
     ghost ending = { recorded_ending };
 
-    fn draw(&mut self) -> Drawn {
-        let line = if self.line.len() > 0 {
-            self.line
-        } else {
-            match find_words(&mut self.reader) {
-                Ok(line) => line,
-                Err(Ending::Clean) => return Drawn::Ended,
-                Err(Ending::Stopped(stop)) => return Drawn::Broken(stop),
-            }
-        };
-        let (word, rest) = cut_word(line);
+    fn draw(&mut self) -> Result<Option<u32>, SourceStop> {
+        if self.line.is_empty() {
+            let Some(line) = find_words(&mut self.reader)? else {
+                return Ok(None);
+            };
+            self.line = line;
+        }
+        let (word, rest) = cut_word(self.line);
         self.line = rest;
-        Drawn::Quadlet(word)
+        Ok(Some(word))
     }
 }

@@ -1,28 +1,32 @@
-use Rattle.std.proofs.Common.{[], ◌∷◌, sym, refl, ap, ◌∙◌, ap₂, arith}
-use Rattle.std.proofs.lemmas.List.{length-take-le, take_rest}
-use Rattle.trace.specs.Lines.{words_left, are_words_left}
+use Rattle.std.proofs.Common.{◌≡◌, ◌-◌, ◌<◌, ℕ, List, ◌∷◌, length, take, drop, sym, ap, ap₂, ◌∙◌, arith}
+use Rattle.std.proofs.lemmas.List.{take_rest, drop_all, drop-drop, length-drop, nil_from_length}
+use Rattle.trace.specs.Lines.{is_word, word_value, words_left, are_words_left}
 use Rattle.trace.proofs.Firsts.{first_word}
 use Rattle.trace.proofs.lines.cut_word.Goals as goal
 
-pub slice_bounds-read_word-end : goal.slice_bounds-read_word-end
-slice_bounds-read_word-end c = sym (length-take-le 8 c.args.line.now (first_word c.args.line.now c.requires.is_a_words_line).there)
+pub split_at-requires : goal.split_at-requires
+split_at-requires c = (first_word c.args.line.now c.requires.is_a_words_line).there
 
 pub read_word-word-requires : goal.read_word-word-requires
-read_word-word-requires c = record { are_eight_digits = (first_word c.args.line.now c.requires.is_a_words_line).word }
+read_word-word-requires c = record { are_eight_digits = ap is_word c.split_at.ensures.front ∙ (first_word c.args.line.now c.requires.is_a_words_line).word }
 
-pub returns-then-line-lt9 : goal.returns-then-line-lt9
-returns-then-line-lt9 c =
+nothing_behind : (line behind : List ℕ) → behind ≡ drop 8 line → length behind < 1 → behind ≡ drop 9 line
+nothing_behind line behind e h = nil_from_length behind (omega arith) ∙ sym (drop_all 9 line (omega (arith, ap length e, length-drop 8 line)))
+
+pub returns-in-empty-clause-gives_the_first_word : goal.returns-in-empty-clause-gives_the_first_word
+returns-in-empty-clause-gives_the_first_word c =
     let first = first_word c.args.line.now c.requires.is_a_words_line in
-    record {
-      gives_the_first_word = first.alone (omega (arith, first.there, c.if-line-lt9.true)) ∙ ap (λ w. w ∷ []) (sym c.read_word-word.ensures.is_their_value);
-      leaves_the_others = refl;
-    }
+    let rest = nothing_behind c.args.line.now c.split_at.result.1.now c.split_at.ensures.back c.in-empty.len_below in
+    first.all ∙ ap₂ (λ w l. w ∷ words_left l) (ap word_value (sym c.split_at.ensures.front) ∙ sym c.read_word-word.ensures.is_their_value) (sym rest)
 
-pub returns : goal.returns
-returns c =
-    let others = (first_word c.args.line.now c.requires.is_a_words_line).others (λ short. omega (arith, short, c.if-line-lt9.false)) in
-    let rest = take_rest c.args.line.now 9 in
+behind_the_space : (line behind : List ℕ) → behind ≡ drop 8 line → take (length behind - 1) (drop 1 behind) ≡ drop 9 line
+behind_the_space line behind e = take_rest behind 1 ∙ ap (λ l. drop 1 l) e ∙ drop-drop 1 8 line
+
+pub returns-in-len1-up : goal.returns-in-len1-up
+returns-in-len1-up c =
+    let first = first_word c.args.line.now c.requires.is_a_words_line in
+    let rest = behind_the_space c.args.line.now c.split_at.result.1.now c.split_at.ensures.back in
     record {
-      gives_the_first_word = others.1 ∙ ap₂ (λ w l. w ∷ words_left l) (sym c.read_word-word.ensures.is_their_value) (sym rest);
-      leaves_the_others = ap are_words_left rest ∙ others.2;
+      gives_the_first_word = first.all ∙ ap₂ (λ w l. w ∷ words_left l) (ap word_value (sym c.split_at.ensures.front) ∙ sym c.read_word-word.ensures.is_their_value) (sym rest);
+      leaves_the_others = ap are_words_left rest ∙ first.left;
     }

@@ -1,7 +1,8 @@
-use Rattle.std.proofs.Common.{◌≡◌, ◌*◌, ◌^◌, ◌<◌, true, drop}
-use Rattle.trace.specs.Lines.{every, is_digit, value_from, word_value}
+use Rattle.std.proofs.Common.{◌≡◌, ◌*◌, ◌^◌, ◌<◌, drop}
+use Rattle.std.specs.List.{fold}
+use Rattle.trace.specs.Lines.{and_digit, word_value}
 use Rattle.trace.proofs.lines.read_word.Given as goal
 
--- what is left tells, and is digits
+-- the value so far goes on to the word's
 abbrev pub invariant-loop-byte : goal.invariant-loop-byte
-invariant-loop-byte l = (value_from l.value (drop l.byte-index l.digits) ≡ word_value l.digits) × (every is_digit (drop l.byte-index l.digits) ≡ true) × (l.value < 2 ^ (4 * l.byte-index))
+invariant-loop-byte l = (fold and_digit l.value (drop l.byte-index l.digits) ≡ word_value l.digits) × (l.value < 2 ^ (4 * l.byte-index))
