@@ -1,7 +1,7 @@
 -- A node ends and takes the newest cablings that wait: what is shown and what waits then.
-use Rattle.std.proofs.Common.{◌≡◌, ℕ, zero, suc, ◌+◌, ◌-◌, ◌<◌, ◌≤◌, true, eqb, ltb, List, [], ◌∷◌, ◌++◌, reverse, length, take, drop, None, sym, refl, ap, ◌∙◌, ap₂, append_assoc, arith, length-append}
-use Rattle.std.proofs.lemmas.List.{append-nil, reverse-append, drop-take}
-use Rattle.std.proofs.lemmas.Bool.{and_parts, and_from, eqb-true, eq-eqb, ltb-true, lt-ltb}
+use Rattle.std.proofs.Common.{◌≡◌, ℕ, zero, suc, ◌+◌, ◌<◌, ◌≤◌, true, eqb, ltb, List, [], ◌∷◌, ◌++◌, reverse, length, take, drop, None, sym, refl, ap, ◌∙◌, ap₂, append_assoc, arith, length-append}
+use Rattle.std.proofs.lemmas.List.{append-nil, reverse-append}
+use Rattle.std.proofs.lemmas.Bool.{and_parts, and_from, eqb-true, eq-eqb, lt-ltb}
 use Rattle.selfid.specs.declared.node.Fields.{Fields}
 use Rattle.selfid.specs.declared.mark.Mark.{Mark}
 use Rattle.selfid.specs.declared.mark.Mark.TheVariants.{Absent, Open, Up, Down}
@@ -181,13 +181,6 @@ within_more n (x ∷ es) e w a b =
     let (y, z) = and_parts (ltb x.port port_limit) _ v in
     and_from (ltb x.node n) _ u (and_from (ltb x.port port_limit) _ y (within_more n es e z a b))
 
-within_wider : (n m : ℕ) (es : List End) → n ≤ m → ends_within n es ≡ true → ends_within m es ≡ true
-within_wider n m [] h w = refl
-within_wider n m (x ∷ es) h w =
-    let (u, v) = and_parts (ltb x.node n) _ w in
-    let (y, z) = and_parts (ltb x.port port_limit) _ v in
-    and_from (ltb x.node m) _ (lt-ltb x.node m (omega (arith, ltb-true x.node n u))) (and_from (ltb x.port port_limit) _ y (within_wider n m es h z))
-
 pub ends_are_ports : (m : ℕ) (cs : List Cabling) → nodes_in cs ≤ m → each_can_hang cs ≡ true → ends_within m (ends_of cs) ≡ true
 ends_are_ports m [] h all = refl
 ends_are_ports m (node x ps ∷ cs) h all =
@@ -197,15 +190,10 @@ ends_are_ports m (node x ps ∷ cs) h all =
     let long = eqb-true (length (marks_of ps)) port_limit v in
     within_more m (ends_of cs) (top_end (nodes_in cs) (node x ps)) (ends_are_ports m cs (omega arith) b) (omega arith) (omega (arith, up_among 0 ps (omega arith)))
 
-within_behind : (n k : ℕ) (es : List End) → ends_within n es ≡ true → ends_within n (drop k es) ≡ true
+pub within_behind : (n k : ℕ) (es : List End) → ends_within n es ≡ true → ends_within n (drop k es) ≡ true
 within_behind n zero es w = w
 within_behind n (suc k) [] w = w
 within_behind n (suc k) (x ∷ es) w = within_behind n k es (and_parts (ltb x.port port_limit) _ (and_parts (ltb x.node n) _ w).1).1
-
-pub newest_within : (n m first loose : ℕ) (es : List End) → n ≤ m → first ≤ loose → ends_within n (take loose es) ≡ true → ends_within m (take (loose - first) (drop first es)) ≡ true
-newest_within n m first loose es h f w =
-    let e : first + (loose - first) ≡ loose = omega arith in
-    ap (ends_within m) (sym (drop-take first (loose - first) es) ∙ ap (λ (k : ℕ). drop first (take k es)) e) ∙ within_behind m first (take loose es) (within_wider n m (take loose es) h w)
 
 pub place_among : (p : ℕ) (ms : List Mark) → up_place p ms ≤ p + length ms
 place_among p [] = omega arith

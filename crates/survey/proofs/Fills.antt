@@ -1,9 +1,8 @@
 -- How far a fill has come, draw by draw.
-use Rattle.std.proofs.Common.{◌≡◌, ℕ, ◌+◌, ◌≤◌, List, [], ◌∷◌, ◌++◌, length, drop, Some, None, Err, Option, sym, refl, ap, ◌∙◌, subst, append_assoc, arith, length-append, length-take}
+use Rattle.std.proofs.Common.{◌≡◌, ℕ, ◌+◌, ◌≤◌, List, [], ◌∷◌, ◌++◌, length, drop, Some, None, Ok, Err, Option, Result, sym, refl, ap, ◌∙◌, subst, append_assoc, arith, length-append}
+use Rattle.std.specs.Prelude.{⊤}
 use Rattle.std.proofs.lemmas.List.{append-nil}
-use Rattle.source.specs.declared.Ending.{Ending}
-use Rattle.source.specs.declared.Ending.TheVariants.{Clean, Stopped}
-use Rattle.source.specs.declared.Drawn.TheVariants.{Quadlet}
+use Rattle.source.specs.declared.SourceStop.{SourceStop}
 use Rattle.source.specs.Sources.{drawn_from}
 use Rattle.stops.specs.declared.Spoil.{Spoil}
 use Rattle.stops.specs.declared.QuadletStop.{QuadletStop}
@@ -14,12 +13,16 @@ use Rattle.survey.specs.declared.gathering.Gathering.{Gathering}
 use Rattle.survey.specs.Views.{Gathered, gathered_with, gathered}
 use Rattle.survey.specs.Offering.{Taken, TurnedAway, QuadletCall}
 use Rattle.survey.specs.Filling.{EachPasses, AllTaken, FillCall}
-use Rattle.survey.specs.Tallies.{quadlet_limit}
+use Rattle.judging.proofs.Rebuilt.{quadlets_in_range}
+
+-- How a source ends.
+abbrev Ending : Type 0
+Ending = Result ⊤ SourceStop
 
 -- What a draw tells of the list that it was drawn from.
-first_waits : (w : List ℕ) (e : Ending) (q : ℕ) → Quadlet q ≡ drawn_from w e → w ≡ q ∷ drop 1 w
-first_waits [] Clean q d = absurd (let z : ◌≡◌ {A = ℕ} 0 1 = cc in omega arith)
-first_waits [] (Stopped s) q d = absurd (let z : ◌≡◌ {A = ℕ} 0 1 = cc in omega arith)
+first_waits : (w : List ℕ) (e : Ending) (q : ℕ) → Ok (Some q) ≡ drawn_from w e → w ≡ q ∷ drop 1 w
+first_waits [] (Ok u) q d = cc
+first_waits [] (Err s) q d = cc
 first_waits (x ∷ w) e q d = ap {B = List ℕ} (λ y. y ∷ w) (let k : q ≡ x = cc in sym k)
 
 one_more_passes : (qs front : List ℕ) (q : ℕ) → EachPasses qs front → Verdict (qs ++ front) q None → EachPasses qs (front ++ (q ∷ []))
@@ -43,17 +46,14 @@ far_start w e g c =
     }
 
 -- A gathering has taken few quadlets.
-few : (g : Gathering) → length (gathered g).taken ≤ quadlet_limit
-few g = omega (arith, length-take g.count g.quadlets, g.count_in_range)
-
-pub far_few : {w : List ℕ} {e : Ending} {g : Gathered} {v : List ℕ} {d : Ending} {n : ℕ} (h : Gathering) → Far w e g v d n (gathered h) → n ≤ quadlet_limit
-far_few {g = g} h far = omega (arith, far.taken.count, few h, ap (λ (x : Gathered). length x.taken) far.taken.then ∙ length-append g.taken far.front)
+pub far_few : {w : List ℕ} {e : Ending} {g : Gathered} {v : List ℕ} {d : Ending} {n : ℕ} (h : Gathering) → Far w e g v d n (gathered h) → n ≤ 378
+far_few {g = g} h far = omega (arith, far.taken.count, quadlets_in_range (gathered h).taken h.begins, ap (λ (x : Gathered). length x.taken) far.taken.then ∙ length-append g.taken far.front)
 
 module _ {w : List ℕ} {e : Ending} {g : Gathered} {v : List ℕ} {d : Ending} {n : ℕ} {h : Gathered} (far : Far w e g v d n h) where
-  then_drawn : (q : ℕ) → Quadlet q ≡ drawn_from v d → w ≡ (far.front ++ (q ∷ [])) ++ drop 1 v
+  then_drawn : (q : ℕ) → Ok (Some q) ≡ drawn_from v d → w ≡ (far.front ++ (q ∷ [])) ++ drop 1 v
   then_drawn q p = far.parts ∙ ap (λ (l : List ℕ). far.front ++ l) (first_waits v d q p) ∙ sym (append_assoc far.front (q ∷ []) (drop 1 v))
 
-  pub far_more : (q : ℕ) (v' : List ℕ) (d' : Ending) (k : Gathered) → Quadlet q ≡ drawn_from v d → v' ≡ drop 1 v → d' ≡ d → Taken h q k → Far w e g v' d' (n + 1) k
+  pub far_more : (q : ℕ) (v' : List ℕ) (d' : Ending) (k : Gathered) → Ok (Some q) ≡ drawn_from v d → v' ≡ drop 1 v → d' ≡ d → Taken h q k → Far w e g v' d' (n + 1) k
   far_more q v' d' k p r s t =
       let old = ap (λ (x : Gathered). x.taken) far.taken.then in
       record {
@@ -69,7 +69,7 @@ module _ {w : List ℕ} {e : Ending} {g : Gathered} {v : List ℕ} {d : Ending} 
             };
       }
 
-  pub far_turned_away : (q : ℕ) (v' : List ℕ) (d' : Ending) (z : QuadletStop) (k : Gathered) → Quadlet q ≡ drawn_from v d → v' ≡ drop 1 v → d' ≡ d → QuadletCall h q (Err z) k → FillCall g w e (Err (Survey n z)) v' d' k
+  pub far_turned_away : (q : ℕ) (v' : List ℕ) (d' : Ending) (z : QuadletStop) (k : Gathered) → Ok (Some q) ≡ drawn_from v d → v' ≡ drop 1 v → d' ≡ d → QuadletCall h q (Err z) k → FillCall g w e (Err (Survey n z)) v' d' k
   far_turned_away q v' d' (Flawed z) k p r s t =
       record {
         drawn = far.front ++ (q ∷ []);

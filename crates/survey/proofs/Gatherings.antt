@@ -1,66 +1,39 @@
 -- What always holds of a gathering.
-use Rattle.std.proofs.Common.{◌≡◌, ℕ, ◌+◌, ◌-◌, ◌%◌, ◌<◌, ◌≤◌, true, false, List, [], ◌∷◌, ◌++◌, length, get_or, take, set, None, Ok, sym, refl, ap, ◌∙◌, subst, arith, length-append}
-use Rattle.std.proofs.lemmas.List.{length-take-le, get_or-take, take_more_set}
-use Rattle.std.proofs.lemmas.Bool.{eqb-true}
+use Rattle.std.proofs.Common.{◌≡◌, ℕ, ◌<◌, true, false, List, [], ◌∷◌, ◌++◌, length, None, Ok, sym, ap, subst, arith, length-append}
 use Rattle.selfid.specs.declared.packet.Packet.{Packet}
 use Rattle.selfid.specs.Reading.{packet_in}
 use Rattle.selfid.specs.Marks.{ups, downs}
-use Rattle.selfid.specs.Cabling.{node_limit}
-use Rattle.judging.specs.Standing.{packets_taken, inverse_due, under_way, marks_told, finished_nodes, whole}
+use Rattle.judging.specs.Standing.{packets_taken, inverse_due, whole}
 use Rattle.judging.specs.Beginnings.{Begins}
 use Rattle.judging.specs.Tests.{packet_tests, Tested, Verdict}
 use Rattle.judging.proofs.Rebuilt.{quadlets_in_range}
-use Rattle.judging.proofs.Recognition.{finished_in_range}
 use Rattle.survey.specs.declared.gathering.Gathering.{Gathering}
-use Rattle.survey.specs.declared.gathering.offering.Next.{Next}
-use Rattle.survey.specs.declared.gathering.offering.Next.TheVariants.{Inverse, Packet as APacket}
 use Rattle.survey.specs.declared.tree.Tree.{Tree}
 use Rattle.survey.specs.Judging.{judged}
 use Rattle.survey.specs.Hearing.{heard, CanHear}
-use Rattle.survey.specs.Tallies.{quadlet_limit, HasRoom, CountsTally, TurnTallies, MarksTally, FieldsTally, RowsTally, EndsTally}
-use Rattle.survey.specs.Inside.{NextIs}
-use Rattle.survey.proofs.Telling.{ups_padded, downs_padded}
-use Rattle.survey.proofs.Tallying.{Tally, MayCome, loose_few, can_hear}
-use Rattle.survey.proofs.Taking.{newest_packet, hears, may_come, packet_taken, inverse_taken}
+use Rattle.survey.specs.Tallies.{CountsTally, TurnTallies, MarksTally, FieldsTally, RowsTally, EndsTally}
+use Rattle.survey.proofs.Tallying.{Tally, MayCome, can_hear}
+use Rattle.survey.proofs.Taking.{hears, may_come, packet_taken, inverse_taken}
 use Rattle.survey.proofs.Verdicts.{packet_tested}
 
 -- The quadlets taken.
 abbrev pub quadlets_of : Gathering → List ℕ
-quadlets_of g = take g.count g.quadlets
+quadlets_of g = g.quadlets.items
 
 module _ (g : Gathering) where
   pub tally_of : Tally (packets_taken (quadlets_of g)) g.tree
-  tally_of = record { rows_long = g.has_room.0; ends_long = g.has_room.1; counts = g.counts_tally; turn = g.turn_tallies; marks = g.marks_tally; fields = g.fields_tally; rows = g.rows_tally; ends = g.ends_tally }
-
-  pub as_many : length g.quadlets ≡ quadlet_limit → length (quadlets_of g) ≡ g.count
-  as_many l = length-take-le g.count g.quadlets (omega (arith, l, g.count_in_range))
-
-  pub newest_of : length g.quadlets ≡ quadlet_limit → inverse_due (quadlets_of g) ≡ true → get_or (packets_taken (quadlets_of g)) 0 0 ≡ get_or g.quadlets (g.count - 1) 0
-  newest_of l d =
-      let odd = eqb-true (length (quadlets_of g) % 2) 1 d in
-      newest_packet (quadlets_of g) d
-      ∙ ap (λ (n : ℕ). get_or (quadlets_of g) (n - 1) 0) (as_many l)
-      ∙ get_or-take g.count g.quadlets (g.count - 1) 0 (omega (arith, odd, as_many l))
-
-  pub counts_in_range : (g.tree.finished ≤ node_limit) × (g.tree.loose ≤ node_limit)
-  counts_in_range =
-      let f = finished_in_range (quadlets_of g) g.begins in
-      (omega (arith, f, g.counts_tally.0), omega (arith, f, g.counts_tally.1, loose_few (finished_nodes (packets_taken (quadlets_of g)))))
+  tally_of = record { counts = g.counts_tally; turn = g.turn_tallies; marks = g.marks_tally; fields = g.fields_tally; rows = g.rows_tally; ends = g.ends_tally }
 
   pub tested_of : (q : ℕ) → whole (quadlets_of g) ≡ false → inverse_due (quadlets_of g) ≡ false → Tested packet_tests (quadlets_of g) q (judged g.tree q)
   tested_of q w d =
-      let marks = ap (λ (t : Tree). t.marks) g.marks_tally in
-      packet_tested (quadlets_of g) q g.tree g.begins w d g.counts_tally.0 g.counts_tally.1 g.counts_tally.2
-      (ap ups marks ∙ ups_padded (marks_told (under_way (packets_taken (quadlets_of g)))) _) (ap downs marks ∙ downs_padded (marks_told (under_way (packets_taken (quadlets_of g)))) _)
+      packet_tested (quadlets_of g) q g.tree g.begins w d g.counts_tally.0 g.counts_tally.1 g.counts_tally.2 (ap ups g.marks_tally) (ap downs g.marks_tally)
 
--- What must hold of a gathering that has taken q, with the tree t.
-abbrev pub Facts : List ℕ → (count : ℕ) → Tree → Type 0
-Facts quadlets count t =
-    let ps = packets_taken (take count quadlets) in
+-- What must hold of a gathering that has taken qs, with the tree t.
+abbrev pub Facts : List ℕ → Tree → Type 0
+Facts qs t =
+    let ps = packets_taken qs in
     record {
-      count_in_range : count ≤ quadlet_limit;
-      begins : Begins (take count quadlets);
-      has_room : HasRoom t;
+      begins : Begins qs;
       counts_tally : CountsTally ps t;
       turn_tallies : TurnTallies ps t;
       marks_tally : MarksTally ps t;
@@ -69,34 +42,28 @@ Facts quadlets count t =
       ends_tally : EndsTally ps t;
     }
 
-pub facts_from : (quadlets qs : List ℕ) (count : ℕ) (t : Tree) → count ≤ quadlet_limit → take count quadlets ≡ qs → Begins qs → Tally (packets_taken qs) t → Facts quadlets count t
-facts_from quadlets qs count t few e b k =
-    rw e
-    (record {
-      count_in_range = few;
+pub facts_from : (qs : List ℕ) (t : Tree) → Begins qs → Tally (packets_taken qs) t → Facts qs t
+facts_from qs t b k =
+    record {
       begins = b;
-      has_room = (k.rows_long, k.ends_long);
       counts_tally = k.counts;
       turn_tallies = k.turn;
       marks_tally = k.marks;
       fields_tally = k.fields;
       rows_tally = k.rows;
       ends_tally = k.ends;
-    })
+    }
 
 -- The quadlet that is taken.
-module _ (g : Gathering) (q : ℕ) (l : length g.quadlets ≡ quadlet_limit) (passes : Verdict (quadlets_of g) q None) where
+module _ (g : Gathering) (q : ℕ) (passes : Verdict (quadlets_of g) q None) where
   more : Begins (quadlets_of g ++ (q ∷ []))
   more = passes.still_begins
 
-  pub room_for_it : g.count < quadlet_limit
-  room_for_it = omega (arith, quadlets_in_range (quadlets_of g ++ (q ∷ [])) more, length-append (quadlets_of g) (q ∷ []), as_many g l)
+  pub room_for_it : length (quadlets_of g) < 378
+  room_for_it = omega (arith, quadlets_in_range (quadlets_of g ++ (q ∷ [])) more, length-append (quadlets_of g) (q ∷ []))
 
-  pub grown : take (g.count + 1) (set g.quadlets g.count q) ≡ quadlets_of g ++ (q ∷ [])
-  grown = take_more_set g.quadlets g.count q (omega (arith, l, room_for_it))
-
-  pub facts_then : (t : Tree) → Tally (packets_taken (quadlets_of g ++ (q ∷ []))) t → Facts (set g.quadlets g.count q) (g.count + 1) t
-  facts_then t k = facts_from (set g.quadlets g.count q) (quadlets_of g ++ (q ∷ [])) (g.count + 1) t (omega (arith, room_for_it)) grown more k
+  facts_then : (t : Tree) → Tally (packets_taken (quadlets_of g ++ (q ∷ []))) t → Facts (quadlets_of g ++ (q ∷ [])) t
+  facts_then t k = facts_from (quadlets_of g ++ (q ∷ [])) t more k
 
   come : (p : Packet) → whole (quadlets_of g) ≡ false → inverse_due (quadlets_of g) ≡ false → packet_in q ≡ Ok p → MayCome (packets_taken (quadlets_of g)) g.tree q p
   come p w d read = may_come (quadlets_of g) g.tree q p (tally_of g) g.begins w d read (rw d at passes.first_that_applies.1)
@@ -104,13 +71,8 @@ module _ (g : Gathering) (q : ℕ) (l : length g.quadlets ≡ quadlet_limit) (pa
   pub hearable : (p : Packet) → whole (quadlets_of g) ≡ false → inverse_due (quadlets_of g) ≡ false → packet_in q ≡ Ok p → CanHear g.tree p
   hearable p w d read = can_hear (tally_of g) (come p w d read)
 
-  pub packet_facts : (p : Packet) → whole (quadlets_of g) ≡ false → inverse_due (quadlets_of g) ≡ false → packet_in q ≡ Ok p → Facts (set g.quadlets g.count q) (g.count + 1) (heard g.tree p)
+  pub packet_facts : (p : Packet) → whole (quadlets_of g) ≡ false → inverse_due (quadlets_of g) ≡ false → packet_in q ≡ Ok p → Facts (quadlets_of g ++ (q ∷ [])) (heard g.tree p)
   packet_facts p w d read = facts_then (heard g.tree p) (subst (λ ps. Tally ps (heard g.tree p)) (sym (packet_taken (quadlets_of g) q d)) (hears (tally_of g) (come p w d read)))
 
-  pub inverse_facts : inverse_due (quadlets_of g) ≡ true → Facts (set g.quadlets g.count q) (g.count + 1) g.tree
+  pub inverse_facts : inverse_due (quadlets_of g) ≡ true → Facts (quadlets_of g ++ (q ∷ [])) g.tree
   inverse_facts d = facts_then g.tree (subst (λ ps. Tally ps g.tree) (sym (inverse_taken (quadlets_of g) q d)) (tally_of g))
-
--- What a quadlet is that is no packet.
-pub is_inverse : (qs : List ℕ) (q : ℕ) (n : Next) → ((p : Packet) → n ≡ APacket p → ⊥) → NextIs qs q (Ok n) → inverse_due qs ≡ true
-is_inverse qs q Inverse f k = k
-is_inverse qs q (APacket p) f k = absurd (f p refl)

@@ -1,20 +1,18 @@
 -- The tree under way has heard a packet, after which its node goes on.
-use Rattle.std.proofs.Common.{◌≡◌, ℕ, suc, ◌+◌, ◌-◌, ◌<◌, ◌≤◌, true, ◌⊎◌, List, [], ◌∷◌, reverse, length, get_or, sym, ap, ◌∙◌, inl, inr, arith}
+use Rattle.std.proofs.Common.{◌≡◌, ℕ, suc, ◌+◌, ◌<◌, ◌≤◌, true, ◌⊎◌, List, [], ◌∷◌, reverse, length, get_or, sym, ap, ◌∙◌, inl, inr, arith}
 use Rattle.std.proofs.lemmas.List.{length-reverse, get_or_append_left, nil_from_length}
 use Rattle.std.proofs.lemmas.Bool.{cases_lt}
 use Rattle.selfid.specs.declared.packet.Packet.{Packet}
 use Rattle.selfid.specs.declared.packet.Packet.TheVariants.{Zero, Extension as Further}
 use Rattle.selfid.specs.Nodes.{extension_limit}
 use Rattle.selfid.specs.Reading.{fields_in, bits}
-use Rattle.judging.specs.Standing.{has_more, turn_of, marks_in, under_way, marks_told}
+use Rattle.judging.specs.Standing.{has_more, turn_of, marks_in, under_way}
 use Rattle.judging.specs.Rebuilding.{fields_told}
 use Rattle.survey.specs.declared.tree.Tree.{Tree}
 use Rattle.survey.specs.Judging.{marks_before}
-use Rattle.survey.specs.Hearing.{told_limit, told_marks}
-use Rattle.survey.specs.Tallies.{tree_with}
+use Rattle.survey.specs.Hearing.{told_marks}
 use Rattle.survey.proofs.Verdicts.{Layout, layout}
 use Rattle.survey.proofs.Ending.{newest_last}
-use Rattle.survey.proofs.Telling.{padded}
 use Rattle.survey.proofs.Tallying.{Tally, MayCome, fields_sent, marks_now, long_now}
 
 -- The oldest packet of a node stays the oldest.
@@ -33,7 +31,7 @@ fields_now {ps} {t} {q} {p} tally next = go p (layout q p next.read)
     go (Further x) (k, e) =
         let s : turn_of q ≡ bits 22 20 q + 1 = rw k in
         let some : 1 ≤ t.turn = omega (arith, s, next.in_turn) in
-        ap (λ (r : Tree). r.fields) (tally.fields some) ∙ sym (oldest q (under_way ps) (omega (arith, some, tally.counts.2)))
+        tally.fields some ∙ sym (oldest q (under_way ps) (omega (arith, some, tally.counts.2)))
 
 -- One more packet of the node under way.
 module _ {ps : List ℕ} {t : Tree} {q : ℕ} {p : Packet} (tally : Tally ps t) (next : MayCome ps t q p) (more : has_more q ≡ true) where
@@ -53,12 +51,10 @@ module _ {ps : List ℕ} {t : Tree} {q : ℕ} {p : Packet} (tally : Tally ps t) 
   pub goes_on : Tally (q ∷ ps) then
   goes_on =
       record {
-        rows_long = tally.rows_long;
-        ends_long = tally.ends_long;
         counts = rw more (tally.counts.0, tally.counts.1, omega (arith, tally.counts.2), tally.counts.3, λ r. absurd (let z : ◌≡◌ {A = ℕ} 0 1 = (let e = next.unrooted in cc) in omega arith));
         turn = (turn_in_range, rw more (long_now tally next ∙ ap marks_before (sym next_turn)));
-        marks = rw more (ap (λ ms. tree_with t.rows t.ends (fields_sent t p) ms then) (marks_now tally next ∙ ap (λ (k : ℕ). padded (marks_told (q ∷ under_way ps)) (told_limit - marks_before k)) (sym next_turn)));
-        fields = λ _. rw more (ap (λ x. tree_with t.rows t.ends x then.marks then) (fields_now tally next));
-        rows = rw more (ap (λ rs. tree_with rs t.ends (fields_sent t p) then.marks then) (ap (λ (x : Tree). x.rows) tally.rows));
-        ends = rw more (λ r. (ap (λ es. tree_with t.rows es (fields_sent t p) then.marks then) (ap (λ (x : Tree). x.ends) (tally.ends r).0), (tally.ends r).1));
+        marks = rw more (marks_now tally next);
+        fields = λ _. rw more (fields_now tally next);
+        rows = rw more tally.rows;
+        ends = rw more tally.ends;
       }

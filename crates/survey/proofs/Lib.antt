@@ -11,7 +11,6 @@ pub mod Verdicts
 pub mod Telling
 pub mod Tallying
 pub mod Growing
-pub mod Finishing
 pub mod Closing
 pub mod Taking
 -- What holds of a gathering, and its verdict, its record, its answers and its fills.

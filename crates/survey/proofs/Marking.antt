@@ -1,43 +1,66 @@
 -- Marks are counted, found and told one after another.
-use Rattle.std.proofs.Common.{◌≡◌, ℕ, suc, ◌+◌, ◌<◌, ◌≤◌, Bool, true, false, cond, eqb, List, [], ◌∷◌, ◌++◌, length, get_or, take, drop, set, sym, refl, ap, ◌∙◌, ap₂, append_assoc, arith, length-append}
-use Rattle.std.proofs.lemmas.List.{drop_more, take_more, set_at, length-take-le}
+use Rattle.std.proofs.Common.{◌≡◌, ℕ, zero, suc, ◌+◌, ◌<◌, ◌≤◌, Bool, true, false, cond, eqb, ◌⊎◌, List, [], ◌∷◌, ◌++◌, length, get_or, take, drop, replicate, Some, None, Option, sym, refl, ap, ◌∙◌, ap₂, inl, inr, arith}
+use Rattle.std.specs.List.{count_by, AllWithin, HoldsAt}
+use Rattle.std.specs.Option.{MatchOption, unwrap_or}
+use Rattle.std.proofs.lemmas.List.{take-replicate}
+use Rattle.std.proofs.lemmas.List.Recursion.{is_count_by}
+use denote.Enum.Bare.{sameb}
+use denote.Enum.Declared.{tag_of}
+use Rattle.selfid.specs.contracts.mark.Mark.{the_type}
 use Rattle.selfid.specs.declared.mark.Mark.{Mark}
 use Rattle.selfid.specs.declared.mark.Mark.TheVariants.{Absent, Open, Up, Down}
 use Rattle.selfid.specs.Marks.{mark_code, ups, downs, present}
 use Rattle.survey.specs.Marks.{times_marked}
 use Rattle.survey.specs.Joining.{up_place}
 
-pub counted_on : (m : Mark) (ms : List Mark) (i times : ℕ) (b : Bool) → i < length ms → eqb (mark_code (get_or ms i Absent)) (mark_code m) ≡ b → times + times_marked m (drop i ms) ≡ cond b 1 0 + times + times_marked m (drop (i + 1) ms)
-counted_on m ms i times b h e =
-    ap (λ (l : List Mark). times + times_marked m l) (drop_more ms i Absent h)
-    ∙ ap (λ (x : Bool). times + (cond x 1 0 + times_marked m (drop (i + 1) ms))) e
-    ∙ omega arith
-
-pub place_here : (p : ℕ) (ms : List Mark) (i : ℕ) → i < length ms → get_or ms i Absent ≡ Up → up_place p (drop i ms) ≡ p
-place_here p ms i h e = ap (up_place p) (drop_more ms i Absent h ∙ ap {B = List Mark} (λ m. m ∷ drop (i + 1) ms) e)
-
-pub place_later : (ms : List Mark) (i : ℕ) → i < length ms → (get_or ms i Absent ≡ Up → ⊥) → up_place i (drop i ms) ≡ up_place (i + 1) (drop (i + 1) ms)
-place_later ms i h other = ap (up_place i) (drop_more ms i Absent h) ∙ go (get_or ms i Absent) other
+-- Two marks are the same if their codes are.
+same_code : (m k : Mark) → sameb the_type m k ≡ eqb (mark_code m) (mark_code k)
+same_code m k = ap₂ (λ (a b : ℕ). eqb a b) (tag_is_code m) (tag_is_code k)
   where
-    one_on : up_place (suc i) (drop (i + 1) ms) ≡ up_place (i + 1) (drop (i + 1) ms)
-    one_on = ap (λ (k : ℕ). up_place k (drop (i + 1) ms)) (omega arith)
+    tag_is_code : (m : Mark) → tag_of the_type m ≡ mark_code m
+    tag_is_code Absent = refl
+    tag_is_code Open = refl
+    tag_is_code Up = refl
+    tag_is_code Down = refl
 
-    go : (m : Mark) → (m ≡ Up → ⊥) → up_place i (m ∷ drop (i + 1) ms) ≡ up_place (i + 1) (drop (i + 1) ms)
-    go Absent f = one_on
-    go Open f = one_on
-    go Up f = absurd (f refl)
-    go Down f = one_on
+pub times_counted : (k : Mark) (ms : List Mark) → times_marked k ms ≡ count_by (λ (m : Mark). sameb the_type m k) ms
+times_counted k ms = is_count_by (times_marked k) (λ (m : Mark). sameb the_type m k) refl (λ x xs. one_more (eqb (mark_code x) (mark_code k)) (times_marked k xs) ∙ ap (λ (b : Bool). cond b (1 + times_marked k xs) (times_marked k xs)) (sym (same_code x k))) ms
+  where
+    one_more : (b : Bool) (n : ℕ) → cond b 1 0 + n ≡ cond b (1 + n) n
+    one_more true n = refl
+    one_more false n = omega arith
 
-pub told_on : (ms told : List Mark) (first i : ℕ) (d : Mark) → i < length told → first + length told ≤ length ms → set (take first ms ++ (take i told ++ drop (first + i) ms)) (first + i) (get_or told i d) ≡ take first ms ++ (take (i + 1) told ++ drop (first + (i + 1)) ms)
-told_on ms told first i d h room =
-    let before = take first ms ++ take i told in
-    let long : length before ≡ first + i = length-append (take first ms) (take i told) ∙ ap₂ (λ (a b : ℕ). a + b) (length-take-le first ms (omega arith)) (length-take-le i told (omega arith)) in
-    let behind = drop (first + i + 1) ms in
-    let same : behind ≡ drop (first + (i + 1)) ms = ap (λ (k : ℕ). drop k ms) (omega arith) in
-    ap (λ (l : List Mark). set l (first + i) (get_or told i d)) (sym (append_assoc (take first ms) (take i told) _) ∙ ap (λ (l : List Mark). before ++ l) (drop_more ms (first + i) d (omega arith)))
-    ∙ set_at before (get_or ms (first + i) d) behind (get_or told i d) (first + i) long
-    ∙ append_assoc (take first ms) (take i told) (get_or told i d ∷ behind)
-    ∙ ap (λ (l : List Mark). take first ms ++ l) (sym (append_assoc (take i told) (get_or told i d ∷ []) behind) ∙ ap₂ (λ (a b : List Mark). a ++ b) (sym (take_more told i d h)) same)
+-- Up to place i there is no up mark, and there is one at i, or i is behind them all.
+end_on : (i : ℕ) (ms : List Mark) → ((suc i < suc (length ms)) × (get_or ms i Absent ≡ Up)) ⊎ (suc i ≡ suc (length ms)) → ((i < length ms) × (get_or ms i Absent ≡ Up)) ⊎ (i ≡ length ms)
+end_on i ms (inl (h, u)) = inl (omega arith, u)
+end_on i ms (inr e) = inr (omega arith)
+
+place_at : (p i : ℕ) (ms : List Mark) → ((k : ℕ) → k < i → get_or ms k Absent ≡ Up → ⊥) → ((i < length ms) × (get_or ms i Absent ≡ Up)) ⊎ (i ≡ length ms) → p + i ≡ up_place p ms
+place_at p zero [] none end = omega arith
+place_at p (suc i) [] none (inl (h, u)) = absurd (omega arith)
+place_at p (suc i) [] none (inr e) = absurd (omega arith)
+place_at p zero (m ∷ ms) none (inr e) = absurd (omega arith)
+place_at p zero (Absent ∷ ms) none (inl (h, u)) = cc
+place_at p zero (Open ∷ ms) none (inl (h, u)) = cc
+place_at p zero (Up ∷ ms) none (inl (h, u)) = omega arith
+place_at p zero (Down ∷ ms) none (inl (h, u)) = cc
+place_at p (suc i) (Absent ∷ ms) none end = omega (arith, place_at (suc p) i ms (λ k h u. none (suc k) (omega arith) u) (end_on i ms end))
+place_at p (suc i) (Open ∷ ms) none end = omega (arith, place_at (suc p) i ms (λ k h u. none (suc k) (omega arith) u) (end_on i ms end))
+place_at p (suc i) (Up ∷ ms) none end = absurd (none 0 (omega arith) refl)
+place_at p (suc i) (Down ∷ ms) none end = omega (arith, place_at (suc p) i ms (λ k h u. none (suc k) (omega arith) u) (end_on i ms end))
+
+pub place_found : (r : Option ℕ) (ms : List Mark) → MatchOption r (AllWithin (λ m. m ≡ Up → ⊥) ms 0 (length ms)) (λ i. (i < length ms) × HoldsAt (λ m. m ≡ Up) ms i × AllWithin (λ m. m ≡ Up → ⊥) ms 0 i) → unwrap_or r (length ms) ≡ up_place 0 ms
+place_found None ms none = omega (arith, place_at 0 (length ms) ms (λ k h. none k Absent (omega arith) h) (inr refl))
+place_found (Some i) ms (h, up, none) = omega (arith, place_at 0 i ms (λ k l. none k Absent (omega arith) l) (inl (h, up Absent)))
+
+-- The marks told stand in front of absent ones, as many as there is room for.
+pub told_in_front : (ms : List Mark) (n m k : ℕ) → k ≤ length ms → k ≤ n → n ≤ m → (k < n → length ms ≡ k) → take k ms ++ drop k (replicate n Absent) ≡ take n (ms ++ replicate m Absent)
+told_in_front ms zero m zero a b c d = refl
+told_in_front ms zero m (suc k) a b c d = absurd (omega arith)
+told_in_front [] (suc n) m zero a b c d = sym (take-replicate (suc n) m Absent c)
+told_in_front [] (suc n) m (suc k) a b c d = absurd (omega arith)
+told_in_front (x ∷ ms) (suc n) m zero a b c d = absurd (omega (arith, d (omega arith)))
+told_in_front (x ∷ ms) (suc n) m (suc k) a b c d = ap {B = List Mark} (λ r. x ∷ r) (told_in_front ms n m k (omega arith) (omega arith) (omega arith) (λ h. omega (arith, d (omega (arith, h)))))
 
 -- Up and down marks are counted so, and some mark is there if not all are absent.
 pub ups_counted : (ms : List Mark) → times_marked Up ms ≡ ups ms

@@ -1,6 +1,6 @@
 -- The tree under way tallies with the packets taken, and with one more.
-use Rattle.std.proofs.Common.{◌≡◌, ℕ, zero, suc, ◌+◌, ◌-◌, ◌<◌, ◌≤◌, Bool, true, false, cond, eqb, List, [], ◌∷◌, ◌++◌, length, take, drop, replicate, Ok, sym, refl, ap, ◌∙◌, ap₂, append_assoc, arith, length-append}
-use Rattle.std.proofs.lemmas.List.{append-nil, length-drop, take_at}
+use Rattle.std.proofs.Common.{◌≡◌, ℕ, zero, suc, ◌+◌, ◌<◌, ◌≤◌, Bool, true, false, cond, eqb, List, [], ◌∷◌, ◌++◌, length, take, drop, replicate, Ok, sym, refl, ap, ◌∙◌, append_assoc, arith, length-append}
+use Rattle.std.proofs.lemmas.List.{append-nil, length-drop}
 use Rattle.selfid.specs.declared.mark.Mark.{Mark}
 use Rattle.selfid.specs.declared.mark.Mark.TheVariants.{Absent}
 use Rattle.selfid.specs.declared.node.Fields.{Fields}
@@ -15,19 +15,17 @@ use Rattle.judging.specs.Rebuilding.{all_marks}
 use Rattle.judging.specs.Completion.{nodes_in}
 use Rattle.judging.proofs.Readings.{last_three, marks_zeroth, marks_further}
 use Rattle.survey.specs.declared.tree.Tree.{Tree}
-use Rattle.survey.specs.Waiting.{rows_of, ends_of, each_can_hang}
+use Rattle.survey.specs.Waiting.{ends_of, each_can_hang}
 use Rattle.survey.specs.Joining.{ends_within}
-use Rattle.survey.specs.Judging.{marks_before}
+use Rattle.survey.specs.Judging.{finished, loose, marks_before}
 use Rattle.survey.specs.Hearing.{told_limit, node_marks, told_marks, heard_parts, heard, CanEnd, CanTell, CanHear}
 use Rattle.survey.specs.Tallies.{cablings_of, CountsTally, TurnTallies, MarksTally, FieldsTally, RowsTally, EndsTally}
 use Rattle.survey.proofs.Verdicts.{Layout, layout}
 use Rattle.survey.proofs.Ending.{rows_long as rows_as_nodes, ends_long as ends_as_cablings, ends_are_ports}
-use Rattle.survey.proofs.Telling.{padded, ups_padded, downs_padded, told_more, all_ports, ups_in_front, downs_in_front}
+use Rattle.survey.proofs.Telling.{padded, padded_twice, ups_padded, downs_padded, ups_in_front, downs_in_front}
 
 -- All that tallies.
 pub record Tally (ps : List ℕ) (t : Tree) : Type 0 where
-  pub rows_long : length t.rows ≡ node_limit
-  pub ends_long : length t.ends ≡ node_limit
   pub counts : CountsTally ps t
   pub turn : TurnTallies ps t
   pub marks : MarksTally ps t
@@ -43,7 +41,7 @@ pub record MayCome (ps : List ℕ) (t : Tree) (q : ℕ) (p : Packet) : Type 0 wh
   pub last : t.turn ≡ extension_limit → has_more q ≡ false
   pub few_ups : ups (node_so_far ps q) ≤ 1
   pub few_downs : downs (node_so_far ps q) ≤ loose_count ps
-  pub room : t.finished < node_limit
+  pub room : finished t < node_limit
 
 -- A packet tells as many marks as its turn has.
 wide : (q k : ℕ) → turn_of q ≡ k → marks_before k + length (marks_in q) ≡ marks_before (suc k)
@@ -71,9 +69,6 @@ module _ {ps : List ℕ} {t : Tree} {q : ℕ} {p : Packet} (tally : Tally ps t) 
   abbrev pub then : Tree
   then = told_marks t (fields_sent t p) (marks_in q)
 
-  marks_were : t.marks ≡ padded (marks_told (under_way ps)) (told_limit - marks_before t.turn)
-  marks_were = ap (λ (x : Tree). x.marks) tally.marks
-
   long : length (marks_told (under_way ps)) ≡ marks_before t.turn
   long = tally.turn.1
 
@@ -89,33 +84,30 @@ module _ {ps : List ℕ} {t : Tree} {q : ℕ} {p : Packet} (tally : Tally ps t) 
   pub long_now : length (marks_told (q ∷ under_way ps)) ≡ marks_before (suc t.turn)
   long_now = length-append (marks_told (under_way ps)) (marks_in q) ∙ omega (arith, long, wide_now)
 
-  pub marks_now : then.marks ≡ padded (marks_told (q ∷ under_way ps)) (told_limit - marks_before (suc t.turn))
-  marks_now =
-      ap₂ (λ (k : ℕ) (ms : List Mark). take k ms ++ (marks_in q ++ drop (k + length (marks_in q)) ms)) (sym long) marks_were
-      ∙ told_more (marks_told (under_way ps)) (marks_in q) (told_limit - marks_before t.turn) (omega (arith, wide_now, within))
-      ∙ ap (padded (marks_told (q ∷ under_way ps))) (omega (arith, wide_now))
+  pub marks_now : then.marks.items ≡ marks_told (q ∷ under_way ps)
+  marks_now = ap (λ (ms : List Mark). ms ++ marks_in q) tally.marks
 
-  pub ups_then : ups then.marks ≡ ups (node_so_far ps q)
-  ups_then = ap ups marks_now ∙ ups_padded (marks_told (q ∷ under_way ps)) _
+  pub ups_then : ups then.marks.items ≡ ups (node_so_far ps q)
+  ups_then = ap ups marks_now
 
-  pub downs_then : downs then.marks ≡ downs (node_so_far ps q)
-  downs_then = ap downs marks_now ∙ downs_padded (marks_told (q ∷ under_way ps)) _
+  pub downs_then : downs then.marks.items ≡ downs (node_so_far ps q)
+  downs_then = ap downs marks_now
 
   pub all_marks_then : node_marks then ≡ all_marks (q ∷ under_way ps)
-  all_marks_then = ap (take port_limit) marks_now ∙ all_ports (q ∷ under_way ps) _ (omega (arith, long_now, within))
+  all_marks_then = ap (λ (ms : List Mark). take port_limit (padded ms port_limit)) marks_now
 
   -- Of the marks behind the last port none is up or down: there are none, or they are the reserved bits of extension 1.
   record Front : Type 0 where
     ms : List Mark
     few : length ms ≤ port_limit
     n : ℕ
-    same : then.marks ≡ padded ms n
+    same : then.marks.items ≡ padded ms n
 
   in_front : Front
   in_front = go t.turn refl
     where
       early : marks_before (suc t.turn) ≤ port_limit → Front
-      early h = record { ms = marks_told (q ∷ under_way ps); few = omega (arith, long_now, h); n = told_limit - marks_before (suc t.turn); same = marks_now }
+      early h = record { ms = then.marks.items; few = omega (arith, ap length marks_now, long_now, h); n = 0; same = sym (append-nil then.marks.items) }
 
       five : List Mark
       five = take 5 (extension_in q).marks
@@ -126,58 +118,49 @@ module _ {ps : List ℕ} {t : Tree} {q : ℕ} {p : Packet} (tally : Tally ps t) 
       go (suc (suc zero)) k =
           let e : turn_of q ≡ 2 = next.in_turn ∙ k in
           let told = marks_told (under_way ps) in
-          let z : told_limit - marks_before (suc t.turn) ≡ 0 = ap (λ (m : ℕ). told_limit - marks_before (suc m)) k in
           record {
             ms = told ++ take 5 (extension_in q).marks;
             few = omega (arith, length-append told (take 5 (extension_in q).marks), long, ap marks_before k);
             n = 3;
             same =
                 marks_now
-                ∙ ap₂ (λ (l : List Mark) (m : ℕ). padded (told ++ l) m) (marks_further q 1 e ∙ last_three q (rw next.read) e) z
-                ∙ append-nil (told ++ (take 5 (extension_in q).marks ++ replicate 3 Absent))
+                ∙ ap (λ (l : List Mark). told ++ l) (marks_further q 1 e ∙ last_three q (rw next.read) e)
                 ∙ sym (append_assoc told (take 5 (extension_in q).marks) (replicate 3 Absent));
           }
       go (suc (suc (suc k))) e = absurd (omega (arith, e, tally.turn.0))
 
-  pub ups_of_ports : ups (node_marks then) ≡ ups then.marks
-  ups_of_ports =
-      let f = in_front in
-      ap (λ (x : List Mark). ups (take port_limit x)) f.same ∙ ups_in_front f.ms port_limit f.n f.few ∙ sym (ups_padded f.ms f.n) ∙ ap ups (sym f.same)
+  -- So the marks of the ports have the same.
+  ports_padded : (f : Front) → node_marks then ≡ take port_limit (padded f.ms (f.n + port_limit))
+  ports_padded f = ap (λ (x : List Mark). take port_limit (padded x port_limit)) f.same ∙ ap (take port_limit) (padded_twice f.ms f.n port_limit)
 
-  pub downs_of_ports : downs (node_marks then) ≡ downs then.marks
-  downs_of_ports =
-      let f = in_front in
-      ap (λ (x : List Mark). downs (take port_limit x)) f.same ∙ downs_in_front f.ms port_limit f.n f.few ∙ sym (downs_padded f.ms f.n) ∙ ap downs (sym f.same)
+  pub ups_of_ports : ups (node_marks then) ≡ ups then.marks.items
+  ups_of_ports = let f = in_front in ap ups (ports_padded f) ∙ ups_in_front f.ms port_limit (f.n + port_limit) f.few ∙ sym (ups_padded f.ms f.n) ∙ ap ups (sym f.same)
+
+  pub downs_of_ports : downs (node_marks then) ≡ downs then.marks.items
+  downs_of_ports = let f = in_front in ap downs (ports_padded f) ∙ downs_in_front f.ms port_limit (f.n + port_limit) f.few ∙ sym (downs_padded f.ms f.n) ∙ ap downs (sym f.same)
 
   -- The loose ends are those of the cablings that wait.
-  pub rows_were : t.rows ≡ rows_of (cablings_of ps) ++ drop t.finished t.rows
-  rows_were = ap (λ (x : Tree). x.rows) tally.rows
-
-  pub ends_were : t.ends ≡ ends_of (cablings_of ps) ++ drop t.loose t.ends
-  ends_were = ap (λ (x : Tree). x.ends) (tally.ends next.unrooted).0
+  pub ends_were : t.ends.items ≡ ends_of (cablings_of ps)
+  ends_were = (tally.ends next.unrooted).0
 
   pub can_hang : each_can_hang (cablings_of ps) ≡ true
   can_hang = (tally.ends next.unrooted).1
 
   -- As many nodes wait as are finished, and as many cablings as there are loose ends.
-  pub nodes_waiting : nodes_in (cablings_of ps) ≡ t.finished
-  nodes_waiting = omega (arith, next.room, tally.rows_long, ap length rows_were ∙ length-append (rows_of (cablings_of ps)) (drop t.finished t.rows), rows_as_nodes (cablings_of ps), length-drop t.finished t.rows)
+  pub nodes_waiting : nodes_in (cablings_of ps) ≡ finished t
+  nodes_waiting = sym (ap length tally.rows ∙ rows_as_nodes (cablings_of ps))
 
-  pub loose_in_range : t.loose ≤ t.finished
+  pub loose_waiting : length (cablings_of ps) ≡ loose t
+  loose_waiting = sym (ap length ends_were ∙ ends_as_cablings (cablings_of ps))
+
+  loose_in_range : loose t ≤ finished t
   loose_in_range = omega (arith, tally.counts.0, tally.counts.1, loose_few (finished_nodes ps))
 
-  pub loose_waiting : length (cablings_of ps) ≡ t.loose
-  loose_waiting = omega (arith, next.room, loose_in_range, tally.ends_long, ap length ends_were ∙ length-append (ends_of (cablings_of ps)) (drop t.loose t.ends), ends_as_cablings (cablings_of ps), length-drop t.loose t.ends)
-
-  ends_in_front : take t.loose t.ends ≡ ends_of (cablings_of ps)
-  ends_in_front = ap (take t.loose) ends_were ∙ take_at (ends_of (cablings_of ps)) (drop t.loose t.ends) t.loose (ends_as_cablings (cablings_of ps) ∙ loose_waiting)
-
   can_end : CanEnd then
-  can_end =
-      (next.room, loose_in_range, omega (arith, downs_then, next.few_downs, tally.counts.1), downs_of_ports, ups_of_ports, ap (ends_within t.finished) ends_in_front ∙ ends_are_ports t.finished (cablings_of ps) (omega (arith, nodes_waiting)) can_hang)
+  can_end = (next.room, loose_in_range, omega (arith, downs_then, next.few_downs, tally.counts.1), ap (ends_within (finished t)) ends_were ∙ ends_are_ports (finished t) (cablings_of ps) (omega (arith, nodes_waiting)) can_hang)
 
   can_tell : CanTell t (fields_sent t p) (marks_in q) (has_more q)
-  can_tell = (tally.turn.0, omega (arith, wide_now, within), λ _. can_end)
+  can_tell = (tally.turn.0, omega (arith, ap length tally.marks, long, wide_now, within), λ _. can_end)
 
 -- The packet's own marks are those in its word.
 by_word : (t : Tree) (q : ℕ) (p : Packet) → Layout q p → CanTell t (fields_sent t p) (marks_in q) (has_more q) → CanHear t p

@@ -18,7 +18,7 @@ use Rattle.judging.specs.Completion.{enough_with}
 use Rattle.judging.proofs.Rows.{ups_++, downs_++}
 use Rattle.judging.proofs.Recognition.{packet_follows, not_enough}
 use Rattle.survey.specs.declared.tree.Tree.{Tree}
-use Rattle.survey.specs.Judging.{completable, judged_parts, judged_packet, judged_read, judged}
+use Rattle.survey.specs.Judging.{finished, loose, completable, judged_parts, judged_packet, judged_read, judged}
 
 -- A packet that was read from a word is what stands in it.
 abbrev pub Layout : ℕ → Packet → Type 0
@@ -91,17 +91,17 @@ decides_extension q = go (is_extension q) refl
     go true e = (λ _. e, λ _. rw e (lt-ltb 0 (bits 22 20 q + 1) (omega arith)))
     go false e = (λ h. absurd (let w : 0 < 0 = ltb-true 0 0 (rw e at h) in omega arith), λ h. cc)
 
-module _ (qs : List ℕ) (q : ℕ) (t : Tree) (begins : Begins qs) (unfinished : whole qs ≡ false) (none_due : inverse_due qs ≡ false) (f : t.finished ≡ nodes_finished (packets_taken qs)) (l : t.loose ≡ loose_count (packets_taken qs)) (k : t.turn ≡ length (under_way (packets_taken qs))) (u : ups t.marks ≡ ups (marks_told (under_way (packets_taken qs)))) (d : downs t.marks ≡ downs (marks_told (under_way (packets_taken qs)))) where
-  ups_now : ups t.marks + ups (marks_in q) ≡ ups (node_so_far (packets_taken qs) q)
+module _ (qs : List ℕ) (q : ℕ) (t : Tree) (begins : Begins qs) (unfinished : whole qs ≡ false) (none_due : inverse_due qs ≡ false) (f : finished t ≡ nodes_finished (packets_taken qs)) (l : loose t ≡ loose_count (packets_taken qs)) (k : t.turn ≡ length (under_way (packets_taken qs))) (u : ups t.marks.items ≡ ups (marks_told (under_way (packets_taken qs)))) (d : downs t.marks.items ≡ downs (marks_told (under_way (packets_taken qs)))) where
+  ups_now : ups t.marks.items + ups (marks_in q) ≡ ups (node_so_far (packets_taken qs) q)
   ups_now = ap (λ (n : ℕ). n + ups (marks_in q)) u ∙ sym (ups_++ (marks_told (under_way (packets_taken qs))) (marks_in q))
 
-  downs_now : downs t.marks + downs (marks_in q) ≡ downs (node_so_far (packets_taken qs) q)
+  downs_now : downs t.marks.items + downs (marks_in q) ≡ downs (node_so_far (packets_taken qs) q)
   downs_now = ap (λ (n : ℕ). n + downs (marks_in q)) d ∙ sym (downs_++ (marks_told (under_way (packets_taken qs))) (marks_in q))
 
-  enough_now : completable t (ups t.marks + ups (marks_in q)) (downs t.marks + downs (marks_in q)) (turn_of q) (has_more q) ≡ enough_with (packets_taken qs) q
+  enough_now : completable t (ups t.marks.items + ups (marks_in q)) (downs t.marks.items + downs (marks_in q)) (turn_of q) (has_more q) ≡ enough_with (packets_taken qs) q
   enough_now = rw (f, l, ups_now, downs_now)
 
-  number_test : Decides (not (eqb (bits 29 24 q) t.finished)) (Applies WrongNumber qs q)
+  number_test : Decides (not (eqb (bits 29 24 q) (finished t))) (Applies WrongNumber qs q)
   number_test = rw f (Decides-not _ (Decides-eqb (bits 29 24 q) (nodes_finished (packets_taken qs))))
 
   turn_test : Decides (not (eqb (turn_of q) t.turn) || (eqb (turn_of q) extension_limit && has_more q)) (Applies OutOfTurn qs q)
@@ -110,16 +110,16 @@ module _ (qs : List ℕ) (q : ℕ) (t : Tree) (begins : Begins qs) (unfinished :
   empty_test : Decides (ltb 0 (turn_of q) && (not (has_more q) && not (present (marks_in q)))) (Applies EmptyExtension qs q)
   empty_test = Decides-like _ (λ (a, b). (a, b.0, b.1)) (λ (a, b, c). (a, (b, c))) (Decides-and _ _ (decides_extension q) (Decides-and _ _ (decides_off (has_more q)) (decides_off (present (marks_in q)))))
 
-  ups_test : Decides (leb 2 (ups t.marks + ups (marks_in q))) (Applies SecondUp qs q)
+  ups_test : Decides (leb 2 (ups t.marks.items + ups (marks_in q))) (Applies SecondUp qs q)
   ups_test = rw ups_now (decides_leb 2 _)
 
-  downs_test : Decides (ltb t.loose (downs t.marks + downs (marks_in q))) (Applies TooManyDown qs q)
+  downs_test : Decides (ltb (loose t) (downs t.marks.items + downs (marks_in q))) (Applies TooManyDown qs q)
   downs_test = rw (l, downs_now) (Decides-ltb _ _)
 
-  root_test : Decides (not (has_more q) && (eqb (ups t.marks + ups (marks_in q)) 0 && ltb (downs t.marks + downs (marks_in q)) t.loose)) (Applies LooseEndLeft qs q)
+  root_test : Decides (not (has_more q) && (eqb (ups t.marks.items + ups (marks_in q)) 0 && ltb (downs t.marks.items + downs (marks_in q)) (loose t))) (Applies LooseEndLeft qs q)
   root_test = rw (l, ups_now, downs_now) (Decides-like _ (λ (a, b). (a, b.0, b.1)) (λ (a, b, c). (a, (b, c))) (Decides-and _ _ (decides_off (has_more q)) (Decides-and _ _ (Decides-eqb _ 0) (Decides-ltb _ _))))
 
-  completion_test : Tested (NotSelfId ∷ ReservedBit ∷ WrongNumber ∷ OutOfTurn ∷ EmptyExtension ∷ SecondUp ∷ TooManyDown ∷ LooseEndLeft ∷ []) qs q None → Decides (not (completable t (ups t.marks + ups (marks_in q)) (downs t.marks + downs (marks_in q)) (turn_of q) (has_more q))) (Applies NoCabling qs q)
+  completion_test : Tested (NotSelfId ∷ ReservedBit ∷ WrongNumber ∷ OutOfTurn ∷ EmptyExtension ∷ SecondUp ∷ TooManyDown ∷ LooseEndLeft ∷ []) qs q None → Decides (not (completable t (ups t.marks.items + ups (marks_in q)) (downs t.marks.items + downs (marks_in q)) (turn_of q) (has_more q))) (Applies NoCabling qs q)
   completion_test others = rw enough_now (go (enough_with (packets_taken qs) q) refl)
     where
       go : (b : Bool) → enough_with (packets_taken qs) q ≡ b → Decides (not (enough_with (packets_taken qs) q)) (Begins (qs ++ (q ∷ [])) → ⊥)

@@ -1,7 +1,6 @@
 -- Fill: quadlets are drawn from a source and offered, one after another.
-use Rattle.std.specs.Prelude.{◌≡◌, ℕ, List, [], ◌∷◌, ◌++◌, length, None, Ok, Err, Result}
-use Rattle.source.specs.declared.Ending.{Ending}
-use Rattle.source.specs.declared.Ending.TheVariants.{Clean, Stopped}
+use Rattle.std.specs.Prelude.{⊤, ◌≡◌, ℕ, List, [], ◌∷◌, ◌++◌, length, None, Ok, Err, Result}
+use Rattle.source.specs.declared.SourceStop.{SourceStop}
 use Rattle.stops.specs.declared.Spoil.{Spoil}
 use Rattle.stops.specs.declared.QuadletStop.TheVariants.{Flawed, Spoiled}
 use Rattle.stops.specs.declared.FillStop.{FillStop}
@@ -37,14 +36,14 @@ pub record NoneDrawn (g : Gathered) (drawn : List ℕ) (n p : ℕ) (h : Gathered
   pub spoiled : AlreadySpoiled g p h
 
 -- That the fill answers a, where it drew these quadlets, those still wait, and the source ends with e.
-abbrev pub Filled : Gathered → (drawn waiting : List ℕ) → Ending → Result ℕ FillStop → Gathered → Type 0
-Filled g drawn waiting e (Ok n) h = AllTaken g drawn n h × (waiting ≡ []) × (e ≡ Clean)
-Filled g drawn waiting e (Err (Source n s)) h = AllTaken g drawn n h × (waiting ≡ []) × (e ≡ Stopped s)
+abbrev pub Filled : Gathered → (drawn waiting : List ℕ) → Result ⊤ SourceStop → Result ℕ FillStop → Gathered → Type 0
+Filled g drawn waiting e (Ok n) h = AllTaken g drawn n h × (waiting ≡ []) × (e ≡ Ok tt)
+Filled g drawn waiting e (Err (Source n s)) h = AllTaken g drawn n h × (waiting ≡ []) × (e ≡ Err s)
 Filled g drawn waiting e (Err (Survey n (Flawed s))) h = LastTurnedAway g drawn n s h
 Filled g drawn waiting e (Err (Survey n (Spoiled p))) h = NoneDrawn g drawn n p h
 
 -- The gathering g is filled from a source in which `before` waits: the quadlets drawn left the list from its front, and the ending stays.
-pub record FillCall (g : Gathered) (before : List ℕ) (e : Ending) (a : Result ℕ FillStop) (after : List ℕ) (e' : Ending) (h : Gathered) : Type 0 where
+pub record FillCall (g : Gathered) (before : List ℕ) (e : Result ⊤ SourceStop) (a : Result ℕ FillStop) (after : List ℕ) (e' : Result ⊤ SourceStop) (h : Gathered) : Type 0 where
   pub drawn : List ℕ
   pub parts : before ≡ drawn ++ after
   pub same_ending : e' ≡ e

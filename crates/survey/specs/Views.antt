@@ -1,5 +1,6 @@
 -- What gatherings and records stand for.
-use Rattle.std.specs.Prelude.{ℕ, List, [], take, Some, None, Option}
+use Rattle.std.specs.Prelude.{ℕ, List, [], None, Ok, Err, Option, Result}
+use Rattle.arrayvec.specs.ArrayVec.{ArrayVec}
 use Rattle.stops.specs.declared.Spoil.{Spoil}
 use Rattle.stops.specs.declared.Cause.{Cause}
 use Rattle.survey.specs.declared.row.Row.{Row}
@@ -15,7 +16,7 @@ abbrev pub gathered_with : List ℕ → Option Spoil → Gathered
 gathered_with qs s = record { taken = qs; spoil = s }
 
 abbrev pub gathered : Gathering → Gathered
-gathered g = gathered_with (take g.count g.quadlets) g.spoil
+gathered g = gathered_with g.quadlets.items g.spoil
 
 abbrev pub nothing_offered : Gathered
 nothing_offered = gathered_with [] None
@@ -25,9 +26,9 @@ pub data Shown : Type 0 where
   bus : List Row → Shown
   void : Cause → Shown
 
-abbrev pub shown_with : Option Cause → List Row → Shown
-shown_with None rs = bus rs
-shown_with (Some k) rs = void k
+abbrev pub shown_of : Result (ArrayVec Row) Cause → Shown
+shown_of (Ok rows) = bus rows.items
+shown_of (Err k) = void k
 
 abbrev pub shown : Record → Shown
-shown r = shown_with r.cause (take r.settled.tree.finished r.settled.tree.rows)
+shown r = shown_of r.bus

@@ -1,11 +1,11 @@
 //! A gathering: the quadlets taken since the last reset, and the tree that they tell.
 
-ghost use Rattle.std.specs.Prelude.{◌≤◌, take};
 ghost use Rattle.judging.specs.Beginnings.{Begins};
 ghost use Rattle.judging.specs.Standing.{packets_taken};
-ghost use Rattle.survey.specs.Tallies.{quadlet_limit, HasRoom, CountsTally, TurnTallies, MarksTally, FieldsTally, RowsTally, EndsTally};
+ghost use Rattle.survey.specs.Tallies.{CountsTally, TurnTallies, MarksTally, FieldsTally, RowsTally, EndsTally};
 
 use crate::tree::Tree;
+use arrayvec::ArrayVec;
 use selfid::node::NODE_LIMIT;
 use selfid::packet::EXTENSION_LIMIT;
 use stops::Spoil;
@@ -18,20 +18,17 @@ mod settling;
 // An announcement has at most so many quadlets: three packets a node, each with its inverse.
 pub(crate) const QUADLET_LIMIT: usize = 2 * (1 + EXTENSION_LIMIT) * NODE_LIMIT;
 
-// The quadlets taken are in front. They begin some cabling's announcement, and the tree tallies with them, whether a later one spoiled the gathering or not.
+// The quadlets taken begin some cabling's announcement, and the tree tallies with them, whether a later one spoiled the gathering or not.
 #[derive(Drop)]
 pub struct Gathering {
-    pub(crate) quadlets: [u32; QUADLET_LIMIT],
-    pub(crate) count: usize,
+    pub(crate) quadlets: ArrayVec<u32, QUADLET_LIMIT>,
     pub(crate) tree: Tree,
     pub(crate) spoil: Option<Spoil>,
-    ghost count_in_range: { count ≤ quadlet_limit },
-    ghost begins: { Begins (take count quadlets) },
-    ghost has_room: { HasRoom tree },
-    ghost counts_tally: { CountsTally (packets_taken (take count quadlets)) tree },
-    ghost turn_tallies: { TurnTallies (packets_taken (take count quadlets)) tree },
-    ghost marks_tally: { MarksTally (packets_taken (take count quadlets)) tree },
-    ghost fields_tally: { FieldsTally (packets_taken (take count quadlets)) tree },
-    ghost rows_tally: { RowsTally (packets_taken (take count quadlets)) tree },
-    ghost ends_tally: { EndsTally (packets_taken (take count quadlets)) tree },
+    ghost begins: { Begins quadlets.items },
+    ghost counts_tally: { CountsTally (packets_taken quadlets.items) tree },
+    ghost turn_tallies: { TurnTallies (packets_taken quadlets.items) tree },
+    ghost marks_tally: { MarksTally (packets_taken quadlets.items) tree },
+    ghost fields_tally: { FieldsTally (packets_taken quadlets.items) tree },
+    ghost rows_tally: { RowsTally (packets_taken quadlets.items) tree },
+    ghost ends_tally: { EndsTally (packets_taken quadlets.items) tree },
 }

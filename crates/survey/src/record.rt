@@ -1,13 +1,14 @@
 //! A record: what a gathering has settled to.
 
-use crate::gathering::Gathering;
+use crate::row::Row;
+use arrayvec::ArrayVec;
+use selfid::node::NODE_LIMIT;
 use stops::Cause;
 
 mod questions;
 
-// The gathering as it was settled, and why it is no bus, if it is none.
+// The rows of the bus, or why it is none.
 #[derive(Drop)]
 pub struct Record {
-    pub(crate) settled: Gathering,
-    pub(crate) cause: Option<Cause>,
+    pub(crate) bus: Result<ArrayVec<Row, NODE_LIMIT>, Cause>,
 }

@@ -2,16 +2,17 @@
 
 use selfid::mark::Mark;
 use selfid::node::{Fields, PORT_LIMIT};
+use selfid::speed::Speed;
 
 // One end of a cable: a port of a node.
-#[derive(Clone, Copy)]
+#[derive(Clone, Copy, Debug, Default, PartialEq, Eq)]
 pub struct End {
     pub node: u8,
     pub port: u8,
 }
 
 // A port with its mark, and the far end of its cable if it has one.
-#[derive(Clone, Copy)]
+#[derive(Clone, Copy, Debug, Default, PartialEq, Eq)]
 pub struct Port {
     pub mark: Mark,
     pub far: Option<End>,
@@ -22,4 +23,28 @@ pub struct Port {
 pub struct Row {
     pub fields: Fields,
     pub ports: [Port; PORT_LIMIT],
+}
+
+// A row that no node has filled yet: it has no port. (Fields have no default of their own, since their numbers are kept in range.)
+impl Default for Row {
+    ghost use Rattle.std.specs.Prelude.{◌≡◌, replicate, None};
+    ghost use Rattle.selfid.specs.declared.mark.Mark.TheVariants.{Absent};
+    ghost use Rattle.selfid.specs.Nodes.{port_limit};
+    ghost use Rattle.survey.specs.Nodes.{port_with};
+
+    ghost is_default = { λ row. row.ports ≡ replicate port_limit (port_with Absent None) };
+
+    fn default() -> Row {
+        Row {
+            fields: Fields {
+                link: false,
+                contender: false,
+                initiator: false,
+                gap: 0,
+                speed: Speed::S100,
+                power: 0,
+            },
+            ports: [Port::default(); PORT_LIMIT],
+        }
+    }
 }

@@ -3,8 +3,9 @@
 ghost use Rattle.std.specs.Prelude.{◌≡◌};
 ghost use Rattle.survey.specs.Views.{gathered, nothing_offered};
 
-use crate::gathering::{Gathering, QUADLET_LIMIT};
+use crate::gathering::Gathering;
 use crate::tree::Tree;
+use arrayvec::ArrayVec;
 
 impl Gathering {
     // A new survey: a gathering with nothing offered.
@@ -12,8 +13,7 @@ impl Gathering {
         ensures nothing_is_offered { gathered result ≡ nothing_offered }
     {
         Gathering {
-            quadlets: [0; QUADLET_LIMIT],
-            count: 0,
+            quadlets: ArrayVec::new(),
             tree: Tree::new(),
             spoil: None,
         }

@@ -4,7 +4,7 @@ ghost use Rattle.survey.specs.Views.{gathered};
 ghost use Rattle.survey.specs.Filling.{FillCall};
 
 use crate::gathering::Gathering;
-use source::{Drawn, Source};
+use source::Source;
 use stops::{FillStop, QuadletStop};
 
 impl Gathering {
@@ -18,14 +18,14 @@ impl Gathering {
         let mut taken = 0;
         loop {
             match source.draw() {
-                Drawn::Quadlet(quadlet) => {
+                Ok(Some(quadlet)) => {
                     if let Err(stop) = self.quadlet(quadlet) {
                         return Err(FillStop::Survey(taken, stop));
                     }
                     taken += 1;
                 }
-                Drawn::Ended => return Ok(taken),
-                Drawn::Broken(stop) => return Err(FillStop::Source(taken, stop)),
+                Ok(None) => return Ok(taken),
+                Err(stop) => return Err(FillStop::Source(taken, stop)),
             }
         }
     }

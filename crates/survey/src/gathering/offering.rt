@@ -14,19 +14,12 @@ use selfid::codec::inverse;
 use selfid::packet::Packet;
 use stops::{QuadletStop, Spoil};
 
-// What a quadlet that may come next is: the inverse that is due, or a packet.
-#[derive(Clone, Copy)]
-pub(crate) enum Next {
-    Inverse,
-    Packet(Packet),
-}
-
 impl Gathering {
     // An inverse is due after each packet.
     fn inverse_is_due(&self) -> bool
         ensures tells_if_it_is { result ≡ inverse_due (gathered self.now).taken }
     {
-        self.count % 2 == 1
+        self.quadlets.len() % 2 == 1
     }
 
     // Has the root ended, with its last inverse?
@@ -36,8 +29,8 @@ impl Gathering {
         !self.inverse_is_due() && self.tree.turn == 0 && self.tree.rooted
     }
 
-    // What the quadlet is if it may come next, or what is wrong with it.
-    fn judge(&self, quadlet: u32) -> Result<Next, Flaw>
+    // The packet that the quadlet is if it may come next, or none if it is the inverse that is due. Or what is wrong with it.
+    fn judge(&self, quadlet: u32) -> Result<Option<Packet>, Flaw>
         ensures is_the_verdict { Verdict (gathered self.now).taken quadlet (flaw_of result) }
         ensures tells_what_it_is { NextIs (gathered self.now).taken quadlet result }
     {
@@ -45,28 +38,26 @@ impl Gathering {
             return Err(Flaw::AlreadyWhole);
         }
         if self.inverse_is_due() {
-            if quadlet == inverse(self.quadlets[self.count - 1]) {
-                return Ok(Next::Inverse);
+            let newest = self.quadlets[self.quadlets.len() - 1];
+            if quadlet == inverse(newest) {
+                return Ok(None);
             }
             return Err(Flaw::NotInverse);
         }
-        match self.tree.judge(quadlet) {
-            Ok(packet) => Ok(Next::Packet(packet)),
-            Err(flaw) => Err(flaw),
-        }
+        let packet = self.tree.judge(quadlet)?;
+        Ok(Some(packet))
     }
 
     // The quadlet comes behind those taken.
-    fn take(&mut self, quadlet: u32, next: Next)
+    fn take(&mut self, quadlet: u32, packet: Option<Packet>)
         requires it_passes { Verdict (gathered self.old).taken quadlet None }
-        requires it_is_known { NextIs (gathered self.old).taken quadlet (Ok next) }
+        requires it_is_known { NextIs (gathered self.old).taken quadlet (Ok packet) }
         ensures it_is_behind_the_others { gathered self.new ≡ gathered_with ((gathered self.old).taken ++ (quadlet ∷ [])) (gathered self.old).spoil }
     {
-        if let Next::Packet(packet) = next {
+        if let Some(packet) = packet {
             self.tree.hear(packet);
         }
-        self.quadlets[self.count] = quadlet;
-        self.count += 1;
+        self.quadlets.push(quadlet);
     }
 
     // Offers a quadlet, which is taken or turned away.
@@ -77,14 +68,14 @@ impl Gathering {
             return Err(QuadletStop::Spoiled(spoil.place));
         }
         match self.judge(quadlet) {
-            Ok(next) => {
-                self.take(quadlet, next);
+            Ok(packet) => {
+                self.take(quadlet, packet);
                 Ok(())
             }
             Err(flaw) => {
                 let spoil = Spoil {
                     flaw,
-                    place: self.count,
+                    place: self.quadlets.len(),
                 };
                 self.spoil = Some(spoil);
                 Err(QuadletStop::Flawed(spoil))

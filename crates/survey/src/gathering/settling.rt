@@ -1,12 +1,14 @@
 //! A gathering is settled and reset.
 
 ghost use Rattle.std.specs.Prelude.{◌≡◌};
-ghost use Rattle.survey.specs.Views.{gathered, nothing_offered, shown};
+ghost use Rattle.survey.specs.Views.{gathered, nothing_offered, shown, shown_of};
 ghost use Rattle.survey.specs.Settling.{SettleCall};
-ghost use Rattle.survey.specs.Inside.{cause_of};
 
 use crate::gathering::Gathering;
 use crate::record::Record;
+use crate::row::Row;
+use arrayvec::ArrayVec;
+use selfid::node::NODE_LIMIT;
 use stops::Cause;
 
 impl Gathering {
@@ -14,39 +16,26 @@ impl Gathering {
     pub fn reset(self) -> Gathering
         ensures nothing_is_offered { gathered result ≡ nothing_offered }
     {
-        let quadlets = self.quadlets;
-        let mut tree = self.tree;
-        tree.forget();
-        Gathering {
-            quadlets,
-            count: 0,
-            tree,
-            spoil: None,
-        }
+        Gathering::new()
     }
 
-    // Why the gathering is no bus, if it is none.
-    fn cause(&self) -> Option<Cause>
-        ensures is_the_cause { result ≡ cause_of (gathered self.now) }
+    // The rows of the bus if the announcement is whole and nothing spoiled it, or why it is no bus.
+    fn bus(self) -> Result<ArrayVec<Row, NODE_LIMIT>, Cause>
+        ensures is_what_it_settles_to { SettleCall (gathered self) (shown_of result) }
     {
         if let Some(spoil) = self.spoil {
-            return Some(Cause::SpoiledBy(spoil));
+            return Err(Cause::SpoiledBy(spoil));
         }
-        if self.is_whole() {
-            None
-        } else {
-            Some(Cause::NotWhole(self.count))
+        if !self.is_whole() {
+            return Err(Cause::NotWhole(self.quadlets.len()));
         }
+        Ok(self.tree.rows)
     }
 
-    // The record of what was taken: a bus if the announcement is whole and nothing spoiled it.
+    // The record of what was taken.
     pub fn settle(self) -> Record
         ensures is_its_record { SettleCall (gathered self) (shown result) }
     {
-        let cause = self.cause();
-        Record {
-            settled: self,
-            cause,
-        }
+        Record { bus: self.bus() }
     }
 }

@@ -1,6 +1,7 @@
 //! What a record answers. No question changes it.
 
-ghost use Rattle.std.specs.Prelude.{◌≡◌};
+ghost use Rattle.std.specs.Prelude.{◌≡◌, ◌≤◌};
+ghost use Rattle.selfid.specs.Cabling.{node_limit};
 ghost use Rattle.survey.specs.Views.{gathered, nothing_offered, shown};
 ghost use Rattle.survey.specs.Questions.{node_count, void_cause, found_at, row_asked, node_asked, marks_on, marks_asked, port_asked};
 
@@ -11,25 +12,18 @@ use selfid::mark::Mark;
 use selfid::node::{Fields, PORT_LIMIT};
 use stops::{Cause, QuestionStop};
 
-// A port of a node, if there is such a port.
-fn port_of(row: Row, port: usize) -> Result<Port, QuestionStop>
-    ensures is_that_port { result ≡ found_at row.ports port }
+// The one at this place, if there is one.
+fn found<T: Copy>(items: &[T], place: usize) -> Result<T, QuestionStop>
+    ensures is_the_one_there { result ≡ found_at items.now place }
 {
-    if port >= PORT_LIMIT {
-        return Err(QuestionStop::NoneSuch);
-    }
-    Ok(row.ports[port])
+    items.get(place).copied().ok_or(QuestionStop::NoneSuch)
 }
 
 // The marks of these ports.
-fn marks_of(ports: &[Port; PORT_LIMIT]) -> [Mark; PORT_LIMIT]
-    ensures are_their_marks { result ≡ marks_on ports.now }
+fn marks_of(ports: [Port; PORT_LIMIT]) -> [Mark; PORT_LIMIT]
+    ensures are_their_marks { result ≡ marks_on ports }
 {
-    let mut marks = [Mark::Absent; PORT_LIMIT];
-    for port in 0..PORT_LIMIT {
-        marks[port] = ports[port].mark;
-    }
-    marks
+    ports.map(|port| port.mark)
 }
 
 impl Record {
@@ -37,16 +31,20 @@ impl Record {
     pub fn void_cause(&self) -> Option<Cause>
         ensures is_the_cause { result ≡ void_cause (shown self.now) }
     {
-        self.cause
+        match &self.bus {
+            Ok(_) => None,
+            Err(cause) => Some(*cause),
+        }
     }
 
     // How many nodes the bus has: none if the record is void.
     pub fn node_count(&self) -> usize
         ensures is_the_count { result ≡ node_count (shown self.now) }
+        ensures fits_a_bus { result ≤ node_limit }
     {
-        match self.void_cause() {
-            Some(_) => 0,
-            None => self.settled.tree.finished,
+        match &self.bus {
+            Ok(rows) => rows.len(),
+            Err(_) => 0,
         }
     }
 
@@ -54,49 +52,40 @@ impl Record {
     fn row(&self, number: usize) -> Result<Row, QuestionStop>
         ensures is_that_node { result ≡ row_asked (shown self.now) number }
     {
-        if let Some(_) = self.void_cause() {
-            return Err(QuestionStop::Void);
+        match &self.bus {
+            Ok(rows) => found(rows, number),
+            Err(_) => Err(QuestionStop::Void),
         }
-        if number >= self.settled.tree.finished {
-            return Err(QuestionStop::NoneSuch);
-        }
-        Ok(self.settled.tree.rows[number])
     }
 
     // The fields of a node.
     pub fn node(&self, number: usize) -> Result<Fields, QuestionStop>
         ensures are_its_fields { result ≡ node_asked (shown self.now) number }
     {
-        match self.row(number) {
-            Ok(row) => Ok(row.fields),
-            Err(stop) => Err(stop),
-        }
+        let row = self.row(number)?;
+        Ok(row.fields)
     }
 
     // The marks of all ports of a node, by rising number.
     pub fn marks(&self, number: usize) -> Result<[Mark; PORT_LIMIT], QuestionStop>
         ensures are_its_marks { result ≡ marks_asked (shown self.now) number }
     {
-        match self.row(number) {
-            Ok(row) => Ok(marks_of(&row.ports)),
-            Err(stop) => Err(stop),
-        }
+        let row = self.row(number)?;
+        Ok(marks_of(row.ports))
     }
 
     // A port of a node: its mark, and the node and port at its far end if it has one.
     pub fn port(&self, number: usize, port: usize) -> Result<Port, QuestionStop>
         ensures is_that_port { result ≡ port_asked (shown self.now) number port }
     {
-        match self.row(number) {
-            Ok(row) => port_of(row, port),
-            Err(stop) => Err(stop),
-        }
+        let row = self.row(number)?;
+        found(&row.ports, port)
     }
 
     // A gathering with nothing offered.
     pub fn reset(self) -> Gathering
         ensures nothing_is_offered { gathered result ≡ nothing_offered }
     {
-        self.settled.reset()
+        Gathering::new()
     }
 }

@@ -3,13 +3,11 @@
 ghost use Rattle.std.specs.Prelude.{◌≡◌};
 ghost use Rattle.survey.specs.Hearing.{ended, heard_parts, heard, CanEnd, CanTell, CanHear};
 
-use crate::joining::join_newest;
-use crate::marks::{count, lowest_up, tell};
+use crate::joining::join;
+use crate::marks::{count, lowest_up, on_all_ports};
 use crate::row::{End, Row};
-use crate::tree::verdict::marks_before;
-use crate::tree::{TOLD_LIMIT, Tree};
+use crate::tree::Tree;
 use selfid::mark::Mark;
-use selfid::node::PORT_LIMIT;
 use selfid::packet::Packet;
 
 impl Tree {
@@ -18,35 +16,25 @@ impl Tree {
         requires it_can_end { CanEnd self.old }
         ensures the_node_is_joined { self.new ≡ ended self.old }
     {
-        let own = self.finished;
-        let first = self.loose - count(&self.marks, Mark::Down);
+        let number = self.rows.len();
+        let first = self.ends.len() - count(&self.marks, Mark::Down);
         let rooted = count(&self.marks, Mark::Up) == 0;
-        let up = lowest_up(&self.marks[..PORT_LIMIT]);
-        let ports = join_newest(
-            &mut self.rows,
-            own,
-            &self.marks,
-            &self.ends,
-            first,
-            self.loose,
-        );
-        self.rows[own] = Row {
+        let marks = on_all_ports(&self.marks);
+        let ports = join(self.rows.as_mut_slice(), &marks, &self.ends[first..]);
+        self.rows.push(Row {
             fields: self.fields,
             ports,
-        };
-        if rooted {
-            self.loose = first;
-        } else {
-            self.ends[first] = End {
-                node: own as u8,
-                port: up as u8,
-            };
-            self.loose = first + 1;
+        });
+        self.ends.truncate(first);
+        if !rooted {
+            self.ends.push(End {
+                node: number as u8,
+                port: lowest_up(&marks) as u8,
+            });
         }
         self.rooted = rooted;
-        self.finished = own + 1;
         self.turn = 0;
-        self.marks = [Mark::Absent; TOLD_LIMIT];
+        self.marks.clear();
     }
 
     // The node under way tells these marks, and ends if no more of its packets follow.
@@ -54,7 +42,7 @@ impl Tree {
         requires it_can_tell_them { CanTell self.old self.old.fields marks.now more }
         ensures they_are_told { self.new ≡ heard_parts self.old self.old.fields marks.now more }
     {
-        tell(&mut self.marks, marks_before(self.turn), marks);
+        self.marks.try_extend_from_slice(marks).unwrap();
         self.turn += 1;
         if !more {
             self.end_node();

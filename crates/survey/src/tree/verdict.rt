@@ -1,112 +1,95 @@
 //! The tests of a packet.
 
 ghost use Rattle.std.specs.Prelude.{◌≡◌, ◌≤◌, length, IfOk, Ok};
-ghost use Rattle.selfid.specs.Nodes.{extension_limit};
 ghost use Rattle.selfid.specs.Reading.{packet_in};
-ghost use Rattle.survey.specs.Judging.{marks_before, completable, judged_marks, judged_parts, judged_packet, judged, packet_flaw, flaw_of, InRange};
+ghost use Rattle.survey.specs.Judging.{loose, completable, judged_marks, judged_parts, judged_packet, judged, flaw_of};
 
 use crate::marks::count;
 use crate::tree::Tree;
-use judging::completion::{completes_after, completes_within};
+use judging::completion::{Standing, Told};
 use judging::flaw::Flaw;
 use selfid::mark::Mark;
 use selfid::node::PORT_LIMIT;
-use selfid::packet::{EXTENSION_LIMIT, EXTENSION_PORTS, Packet, PacketFlaw, ZERO_PORTS};
+use selfid::packet::{EXTENSION_LIMIT, EXTENSION_PORTS, Packet, ZERO_PORTS};
 
-// How many marks a node's packets before this one have told.
-pub(crate) fn marks_before(turn: usize) -> usize
-    requires is_small { turn ≤ 8 }
-    ensures is_their_count { result ≡ marks_before turn }
-{
-    if turn == 0 {
-        0
-    } else {
-        ZERO_PORTS + EXTENSION_PORTS * (turn - 1)
-    }
-}
-
-// The flaw of a word that is no packet.
-fn no_packet(flaw: PacketFlaw) -> Flaw
-    ensures is_the_same_flaw { result ≡ packet_flaw flaw }
-{
-    match flaw {
-        PacketFlaw::NotSelfId => Flaw::NotSelfId,
-        PacketFlaw::ReservedBit => Flaw::ReservedBit,
-    }
+// A node has told these marks with this packet, its packet number `turn`, and more packets follow or none.
+#[derive(Clone, Copy, Debug, PartialEq, Eq)]
+struct NodeSoFar {
+    told: Told,
+    turn: u8,
+    more: bool,
 }
 
 impl Tree {
-    // Can the announcement still be completed if the node so far has these up and down marks?
-    fn can_be_completed(&self, ups: usize, downs: usize, turn: usize, more: bool) -> bool
-        requires counts_are_in_range { InRange self.now }
-        requires few_ups { ups ≤ 1 }
-        requires few_downs { downs ≤ self.now.loose }
-        requires turn_is_small { turn ≤ extension_limit }
-        ensures tells_if_there_are_enough_nodes { result ≡ completable self.now ups downs turn more }
+    // Can the announcement still be completed, with the node so far?
+    fn can_be_completed(&self, node: NodeSoFar) -> bool
+        ensures tells_if_there_are_enough_nodes { result ≡ completable self.now node.told.ups node.told.downs node.turn node.more }
     {
-        let finished = self.finished as u8;
-        let loose = self.loose as u8;
-        if more {
-            let left = PORT_LIMIT.saturating_sub(marks_before(turn + 1));
-            completes_within(finished, loose, ups as u8, downs as u8, left as u8)
+        let standing = Standing {
+            finished: self.rows.len() as u8,
+            loose: self.ends.len() as u8,
+        };
+        if node.more {
+            let told = ZERO_PORTS + EXTENSION_PORTS * usize::from(node.turn);
+            standing.completes_within(node.told, PORT_LIMIT.saturating_sub(told) as u8)
         } else {
-            completes_after(finished, loose, ups as u8, downs as u8)
+            standing.completes_after(node.told)
         }
     }
 
     // What is wrong with the marks of the node so far, if anything is.
-    fn judge_marks(&self, ups: usize, downs: usize, turn: usize, more: bool) -> Option<Flaw>
-        requires counts_are_in_range { InRange self.now }
-        requires turn_is_small { turn ≤ extension_limit }
-        ensures is_the_first_flaw { result ≡ judged_marks self.now ups downs turn more }
+    fn judge_marks(&self, node: NodeSoFar) -> Result<(), Flaw>
+        ensures is_the_first_flaw { flaw_of result ≡ judged_marks self.now node.told.ups node.told.downs node.turn node.more }
     {
-        if ups >= 2 {
-            return Some(Flaw::SecondUp);
+        let downs = usize::from(node.told.downs);
+        if node.told.ups >= 2 {
+            return Err(Flaw::SecondUp);
         }
-        if downs > self.loose {
-            return Some(Flaw::TooManyDown);
+        if downs > self.ends.len() {
+            return Err(Flaw::TooManyDown);
         }
-        if !more && ups == 0 && downs < self.loose {
-            return Some(Flaw::LooseEndLeft);
+        if !node.more && node.told.ups == 0 && downs < self.ends.len() {
+            return Err(Flaw::LooseEndLeft);
         }
-        if self.can_be_completed(ups, downs, turn, more) {
-            None
+        if self.can_be_completed(node) {
+            Ok(())
         } else {
-            Some(Flaw::NoCabling)
+            Err(Flaw::NoCabling)
         }
     }
 
     // What is wrong with a packet of these parts, if anything is.
-    fn judge_parts(&self, number: u8, turn: usize, marks: &[Mark], more: bool) -> Option<Flaw>
-        requires counts_are_in_range { InRange self.now }
-        requires few_packets_are_told { self.now.turn ≤ extension_limit }
+    fn judge_parts(&self, number: u8, turn: u8, marks: &[Mark], more: bool) -> Result<(), Flaw>
         requires few_marks { length marks.now ≤ 8 }
-        ensures is_the_first_flaw { result ≡ judged_parts self.now number turn marks.now more }
+        ensures is_the_first_flaw { flaw_of result ≡ judged_parts self.now number turn marks.now more }
     {
-        if number as usize != self.finished {
-            return Some(Flaw::WrongNumber);
+        if usize::from(number) != self.rows.len() {
+            return Err(Flaw::WrongNumber);
         }
-        if turn != self.turn || turn == EXTENSION_LIMIT && more {
-            return Some(Flaw::OutOfTurn);
+        if turn != self.turn || turn as usize == EXTENSION_LIMIT && more {
+            return Err(Flaw::OutOfTurn);
         }
         if turn > 0 && !more && count(marks, Mark::Absent) == marks.len() {
-            return Some(Flaw::EmptyExtension);
+            return Err(Flaw::EmptyExtension);
         }
         let ups = count(&self.marks, Mark::Up) + count(marks, Mark::Up);
         let downs = count(&self.marks, Mark::Down) + count(marks, Mark::Down);
-        self.judge_marks(ups, downs, turn, more)
+        let told = Told {
+            ups: ups as u8,
+            downs: downs as u8,
+        };
+        self.judge_marks(NodeSoFar { told, turn, more })
     }
 
-    fn judge_packet(&self, packet: Packet) -> Option<Flaw>
-        requires counts_are_in_range { InRange self.now }
-        requires few_packets_are_told { self.now.turn ≤ extension_limit }
-        ensures is_the_first_flaw { result ≡ judged_packet self.now packet }
+    // What is wrong with a packet, if anything is.
+    fn judge_packet(&self, packet: Packet) -> Result<(), Flaw>
+        ensures is_the_first_flaw { flaw_of result ≡ judged_packet self.now packet }
     {
         match packet {
             Packet::Zero(zero) => self.judge_parts(zero.number, 0, &zero.marks, zero.more),
             Packet::Extension(extension) => self.judge_parts(
                 extension.number,
-                extension.turn as usize + 1,
+                extension.turn + 1,
                 &extension.marks,
                 extension.more,
             ),
@@ -115,18 +98,11 @@ impl Tree {
 
     // The packet in a word that may come next, or what is wrong with it.
     pub(crate) fn judge(&self, word: u32) -> Result<Packet, Flaw>
-        requires counts_are_in_range { InRange self.now }
-        requires few_packets_are_told { self.now.turn ≤ extension_limit }
         ensures is_the_first_flaw { flaw_of result ≡ judged self.now word }
         ensures gives_the_packet { IfOk result (λ p. packet_in word ≡ Ok p) }
     {
-        let packet = match Packet::decode(word) {
-            Ok(packet) => packet,
-            Err(flaw) => return Err(no_packet(flaw)),
-        };
-        match self.judge_packet(packet) {
-            Some(flaw) => Err(flaw),
-            None => Ok(packet),
-        }
+        let packet = Packet::decode(word)?;
+        self.judge_packet(packet)?;
+        Ok(packet)
     }
 }

@@ -1,20 +1,25 @@
-use Rattle.std.proofs.Common.{◌≡◌, ℕ, ◌+◌, ◌<◌, true, false, sym, ◌∙◌, ap₂, arith}
-use Rattle.selfid.specs.Marks.{present}
+use Rattle.std.proofs.Common.{◌≡◌, ℕ, ◌+◌, ◌<◌, true, false, sym, ap, ◌∙◌, ap₂, arith}
+use Rattle.selfid.specs.Marks.{ups, downs, present}
+use Rattle.survey.specs.Judging.{finished, judged_marks}
 use Rattle.survey.proofs.Marking.{all_absent, one_there, ups_counted, downs_counted}
-use Rattle.survey.specs.Judging.{judged_marks}
 use Rattle.survey.proofs.Judges.{parts_empty, parts_told}
 use Rattle.survey.proofs.tree.Tree.judge_parts.Goals as goal
 use Rattle.survey.proofs.tree.Tree.judge_parts.Goals.{else-turn-gt0-via-then-turn-gt0+then-not-more+else-count-marks, else-turn-gt0-via-then-turn-gt0+else-not-more, else-turn-gt0-via-else-turn-gt0}
 
 pub returns-then-count-marks : goal.returns-then-count-marks
 returns-then-count-marks c =
+    let n : c.args.number ≡ finished c.args.self.now = omega (arith, c.from.ensures) in
     let a = c.count.ensures.is_how_often_it_comes in
-    record { is_the_first_flaw = parts_empty c.args.self.now c.args.number c.args.turn c.args.marks.now c.args.more c.if-number-self.false c.if-turn-self.false c.if-more.either c.if-turn-gt0.true c.if-not-more.true (all_absent c.args.marks.now (sym a ∙ c.if-count-marks.true)) }
+    record { is_the_first_flaw = parts_empty c.args.self.now c.args.number c.args.turn c.args.marks.now c.args.more n c.if-turn-self.false c.if-more.either c.if-turn-gt0.true c.if-not-more.true (all_absent c.args.marks.now (sym a ∙ c.if-count-marks.true)) }
 
 pub returns : goal.returns
 returns c =
-    let u = ap₂ (λ (a b : ℕ). a + b) (c.count-2.ensures.is_how_often_it_comes ∙ ups_counted _) (c.count-3.ensures.is_how_often_it_comes ∙ ups_counted _) in
-    let d = ap₂ (λ (a b : ℕ). a + b) (c.count-4.ensures.is_how_often_it_comes ∙ downs_counted _) (c.count-5.ensures.is_how_often_it_comes ∙ downs_counted _) in
+    let t = c.args.self.now in
+    let n : c.args.number ≡ finished t = omega (arith, c.from.ensures) in
+    let u : c.count-2.result + c.count-3.result ≡ ups t.marks.items + ups c.args.marks.now =
+    ap₂ (λ (a b : ℕ). a + b) (c.count-2.ensures.is_how_often_it_comes ∙ ups_counted _ ∙ ap ups c.deref.ensures.0) (c.count-3.ensures.is_how_often_it_comes ∙ ups_counted _) in
+    let d : c.count-4.result + c.count-5.result ≡ downs t.marks.items + downs c.args.marks.now =
+    ap₂ (λ (a b : ℕ). a + b) (c.count-4.ensures.is_how_often_it_comes ∙ downs_counted _ ∙ ap downs c.deref-2.ensures.0) (c.count-5.ensures.is_how_often_it_comes ∙ downs_counted _) in
     let some : 0 < c.args.turn → c.args.more ≡ false → present c.args.marks.now ≡ true =
     λ z m. elim c.else-turn-gt0.branch [
       | else-turn-gt0-via-then-turn-gt0+then-not-more+else-count-marks w ↦ one_there c.args.marks.now (λ e. w.if-count-marks.false (w.count.ensures.is_how_often_it_comes ∙ e))
@@ -24,6 +29,6 @@ returns c =
     record {
       is_the_first_flaw =
           c.judge_marks.ensures.is_the_first_flaw
-          ∙ ap₂ (λ (a b : ℕ). judged_marks c.args.self.now a b c.args.turn c.args.more) u d
-          ∙ sym (parts_told c.args.self.now c.args.number c.args.turn c.args.marks.now c.args.more c.if-number-self.false c.if-turn-self.false c.if-more.either some);
+          ∙ ap₂ (λ (a b : ℕ). judged_marks t a b c.args.turn c.args.more) u d
+          ∙ sym (parts_told t c.args.number c.args.turn c.args.marks.now c.args.more n c.if-turn-self.false c.if-more.either some);
     }
