@@ -1,5 +1,5 @@
 -- The first word of a words line, and what is left behind it.
-use Rattle.std.proofs.Common.{◌≡◌, ℕ, ◌+◌, ◌<◌, ◌≤◌, Bool, true, eqb, List, [], ◌∷◌, map, length, take, drop, sym, refl, ap, ◌∙◌, subst, inl, inr, arith}
+use Rattle.std.proofs.Common.{◌≡◌, ℕ, ◌+◌, ◌<◌, ◌≤◌, Bool, true, eqb, List, [], ◌∷◌, map, length, take, drop, sym, refl, ap, ap₂, ◌∙◌, subst, inl, inr, arith}
 use Rattle.std.proofs.lemmas.List.{take_all, drop_all, length-take-le}
 use Rattle.std.proofs.lemmas.List.Splits.{slice_split_first, slice_split_none}
 use Rattle.std.proofs.lemmas.List.Sums.{fails_before_first}
@@ -11,7 +11,7 @@ use Rattle.trace.proofs.Values.{word_length}
 abbrev space : ℕ → Bool
 space byte = eqb byte 32
 
-pub left_words : (bs : List ℕ) → is_words_line bs ≡ true → (words_left bs ≡ words_of bs) × (are_words_left bs ≡ true)
+left_words : (bs : List ℕ) → is_words_line bs ≡ true → (words_left bs ≡ words_of bs) × (are_words_left bs ≡ true)
 left_words [] e = absurd (false≢true e)
 left_words (b ∷ bs) e = (refl, e)
 
@@ -52,3 +52,9 @@ more_words bs e u =
 
 pub first_word : (bs : List ℕ) → is_words_line bs ≡ true → FirstWord bs
 first_word bs e = elim (cases_lt (position_or_len space bs) (length bs)) [ inl u ↦ more_words bs e u | inr u ↦ only_word bs e u ]
+
+-- The same of a line that was cut into digits, whose value is the word, and the rest.
+pub cut_so : (line digits rest : List ℕ) (word : ℕ) → is_words_line line ≡ true → digits ≡ take 8 line → word ≡ word_value digits → rest ≡ drop 9 line → (words_of line ≡ word ∷ words_left rest) × (are_words_left rest ≡ true)
+cut_so line digits rest word e front value back =
+    let first = first_word line e in
+    (first.all ∙ ap₂ (λ w l. w ∷ words_left l) (sym (value ∙ ap word_value front)) (sym back), ap are_words_left back ∙ first.left)

@@ -10,7 +10,7 @@ use Rattle.trace.specs.declared.token.Token.{Token}
 use Rattle.trace.specs.declared.token.Token.TheVariants.{Note, Reset, Words}
 use Rattle.trace.specs.declared.token.TraceStop.{TraceStop}
 use Rattle.trace.specs.Reading.{ReadsOne, has_reset, behind_reset, lines_left, lines_before}
-use Rattle.trace.specs.Recorded.{waiting_in, ending_in}
+use Rattle.trace.specs.Recorded.{waiting_ahead, ending_ahead}
 
 -- The two readers have the same reset before them, and count as many lines.
 abbrev pub SameReset : Reader → Reader → Type 0
@@ -26,8 +26,7 @@ is_reset_token (Err stop) = false
 
 -- The same waits behind the two readers, and they end alike.
 abbrev pub SameRun : Reader → Reader → Type 0
-SameRun a b =
-    (waiting_in (lines_left a) ≡ waiting_in (lines_left b)) × (ending_in (lines_before a) (lines_left a) ≡ ending_in (lines_before b) (lines_left b))
+SameRun a b = (waiting_ahead a ≡ waiting_ahead b) × (ending_ahead a ≡ ending_ahead b)
 
 -- A program that passes from reset to reset comes to the end.
 pub fewer_behind_reset : (ls : List (List ℕ)) → has_reset ls ≡ true → length (behind_reset ls) < length ls

@@ -40,25 +40,33 @@ abbrev pub ending_in : ℕ → List (List ℕ) → Result ⊤ SourceStop
 ending_in before [] = Ok tt
 ending_in before (first ∷ others) = ending_at (kind_of first) (before + 1) (ending_in (before + 1) others)
 
+-- What waits in the lines that a reader has left.
+abbrev pub waiting_ahead : Reader → List ℕ
+waiting_ahead reader = waiting_in (lines_left reader)
+
+-- How these lines end.
+abbrev pub ending_ahead : Reader → Result ⊤ SourceStop
+ending_ahead reader = ending_in (lines_before reader) (lines_left reader)
+
 -- What waits in a trace source: what is left of its line, then what waits in the lines behind it.
 abbrev pub recorded_words : TraceSource → List ℕ
-recorded_words source = words_left source.line.now ++ waiting_in (lines_left source.reader)
+recorded_words source = words_left source.line.now ++ waiting_ahead source.reader
 
 -- How a trace source ends.
 abbrev pub recorded_ending : TraceSource → Result ⊤ SourceStop
-recorded_ending source = ending_in (lines_before source.reader) (lines_left source.reader)
+recorded_ending source = ending_ahead source.reader
 
 -- Nothing waits in the lines of the reader, which end so.
 pub record OnlyEnds (reader : Reader) (ending : Result ⊤ SourceStop) : Type 0 where
-  pub nothing_waits : waiting_in (lines_left reader) ≡ []
-  pub it_ends_so : ending_in (lines_before reader) (lines_left reader) ≡ ending
+  pub nothing_waits : waiting_ahead reader ≡ []
+  pub it_ends_so : ending_ahead reader ≡ ending
 
 -- A words line is found, whose words wait first, and then those in the lines of the reader after.
 pub record FindsLine (before : Reader) (line : List ℕ) (after : Reader) : Type 0 where
   pub is_words : is_words_line line ≡ true
-  pub wait_first : waiting_in (lines_left before) ≡ words_of line ++ waiting_in (lines_left after)
+  pub wait_first : waiting_ahead before ≡ words_of line ++ waiting_ahead after
 
--- What the next words line is; with none before the end, how it ends.
+-- What a search for the next words line finds: that line, or else how the lines end. The reader is then after the line, or at the end that it told.
 abbrev pub FindsWords : Reader → Result (Option (Bor (List ℕ))) SourceStop → Reader → Type 0
 FindsWords before (Ok (Some line)) after = FindsLine before line.now after
 FindsWords before (Ok None) after = OnlyEnds before (Ok tt) × OnlyEnds after (Ok tt)

@@ -1,8 +1,7 @@
 //! The calls of a trace source.
 
 ghost use Rattle.std.specs.Prelude.{◌≡◌};
-ghost use Rattle.trace.specs.Reading.{lines_before, lines_left};
-ghost use Rattle.trace.specs.Recorded.{FindsWords, ending_in, recorded_ending, recorded_words, waiting_in};
+ghost use Rattle.trace.specs.Recorded.{FindsWords, ending_ahead, recorded_ending, recorded_words, waiting_ahead};
 
 use super::TraceSource;
 use crate::lines::cut_word;
@@ -13,7 +12,7 @@ use source::{Source, SourceStop};
 // Passes over notes and the words line behind them, and gives that line. At a reset, a bad line or the end it stays, and tells how the source ends.
 fn find_words<'a>(reader: &mut Reader<'a>) -> Result<Option<&'a [u8]>, SourceStop>
     ensures gives_the_first_that_waits_or_the_ending { FindsWords reader.old result reader.new }
-    ensures keeps_the_ending { ending_in (lines_before reader.new) (lines_left reader.new) ≡ ending_in (lines_before reader.old) (lines_left reader.old) }
+    ensures keeps_the_ending { ending_ahead reader.new ≡ ending_ahead reader.old }
 {
     let mut ahead = *reader;
     while let Some(line) = ahead.next() {
@@ -33,8 +32,8 @@ impl<'a> TraceSource<'a> {
     // The source of the words from where the reader stands up to the next `reset`, the end or the first bad line.
     // The reader that is passed in is copied, and so stays where it is.
     pub fn open(reader: Reader<'a>) -> TraceSource<'a>
-        ensures holds_the_words { recorded_words result ≡ waiting_in (lines_left reader.entry) }
-        ensures ends_as_the_lines_do { recorded_ending result ≡ ending_in (lines_before reader.entry) (lines_left reader.entry) }
+        ensures holds_the_words { recorded_words result ≡ waiting_ahead reader.entry }
+        ensures ends_as_the_lines_do { recorded_ending result ≡ ending_ahead reader.entry }
     {
         TraceSource { line: &[], reader }
     }

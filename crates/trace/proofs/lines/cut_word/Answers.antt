@@ -1,7 +1,7 @@
-use Rattle.std.proofs.Common.{◌≡◌, ◌-◌, ◌<◌, ℕ, List, ◌∷◌, length, take, drop, sym, ap, ap₂, ◌∙◌, arith}
+use Rattle.std.proofs.Common.{◌≡◌, ◌-◌, ◌<◌, ℕ, List, length, take, drop, sym, ap, ◌∙◌, arith}
 use Rattle.std.proofs.lemmas.List.{take_rest, drop_all, drop-drop, length-drop, nil_from_length}
-use Rattle.trace.specs.Lines.{is_word, word_value, words_left, are_words_left}
-use Rattle.trace.proofs.Firsts.{first_word}
+use Rattle.trace.specs.Lines.{is_word}
+use Rattle.trace.proofs.Firsts.{first_word, cut_so}
 use Rattle.trace.proofs.lines.cut_word.Goals as goal
 
 pub split_at-requires : goal.split_at-requires
@@ -15,18 +15,12 @@ nothing_behind line behind e h = nil_from_length behind (omega arith) ∙ sym (d
 
 pub returns-in-empty-clause-gives_the_first_word : goal.returns-in-empty-clause-gives_the_first_word
 returns-in-empty-clause-gives_the_first_word c =
-    let first = first_word c.args.line.now c.requires.is_a_words_line in
-    let rest = nothing_behind c.args.line.now c.split_at.result.1.now c.split_at.ensures.back c.in-empty.len_below in
-    first.all ∙ ap₂ (λ w l. w ∷ words_left l) (ap word_value (sym c.split_at.ensures.front) ∙ sym c.read_word-word.ensures.is_their_value) (sym rest)
+    (cut_so c.args.line.now c.split_at.result.0.now c.split_at.result.1.now c.read_word-word.result c.requires.is_a_words_line c.split_at.ensures.front c.read_word-word.ensures.is_their_value (nothing_behind c.args.line.now c.split_at.result.1.now c.split_at.ensures.back c.in-empty.len_below)).0
 
 behind_the_space : (line behind : List ℕ) → behind ≡ drop 8 line → take (length behind - 1) (drop 1 behind) ≡ drop 9 line
 behind_the_space line behind e = take_rest behind 1 ∙ ap (λ l. drop 1 l) e ∙ drop-drop 1 8 line
 
 pub returns-in-len1-up : goal.returns-in-len1-up
 returns-in-len1-up c =
-    let first = first_word c.args.line.now c.requires.is_a_words_line in
-    let rest = behind_the_space c.args.line.now c.split_at.result.1.now c.split_at.ensures.back in
-    record {
-      gives_the_first_word = first.all ∙ ap₂ (λ w l. w ∷ words_left l) (ap word_value (sym c.split_at.ensures.front) ∙ sym c.read_word-word.ensures.is_their_value) (sym rest);
-      leaves_the_others = ap are_words_left rest ∙ first.left;
-    }
+    let cut = cut_so c.args.line.now c.split_at.result.0.now _ c.read_word-word.result c.requires.is_a_words_line c.split_at.ensures.front c.read_word-word.ensures.is_their_value (behind_the_space c.args.line.now c.split_at.result.1.now c.split_at.ensures.back) in
+    record { gives_the_first_word = cut.0; leaves_the_others = cut.1 }
