@@ -1,11 +1,8 @@
 -- The lines of the nodes.
-use Rattle.std.proofs.Common.{◌≡◌, ℕ, zero, suc, ◌+◌, ◌≤◌, List, [], ◌∷◌, length, take, Some, None, Ok, Err, Option, Result, sym, refl, ap, ◌∙◌, arith}
-use Rattle.std.proofs.lemmas.List.{length-take}
-use Rattle.stops.specs.declared.Cause.{Cause}
+use Rattle.std.proofs.Common.{◌≡◌, ℕ, zero, suc, ◌+◌, ◌≤◌, List, [], ◌∷◌, length, Ok, Err, Result, sym, refl, ap, ◌∙◌, arith}
 use Rattle.stops.specs.declared.QuestionStop.{QuestionStop}
 use Rattle.survey.specs.declared.row.Row.{Row}
-use Rattle.survey.specs.declared.record.Record.{Record}
-use Rattle.survey.specs.Views.{Shown, bus, void, shown, shown_with}
+use Rattle.survey.specs.Views.{Shown, bus, void}
 use Rattle.survey.specs.Questions.{found_at, row_asked, marks_on, node_count}
 use Rattle.print.specs.declared.stop.LineStop.{LineStop}
 use Rattle.print.specs.declared.stop.LineStop.TheVariants.{NoSuchLine}
@@ -38,7 +35,7 @@ no_more_lines [] j k e = omega arith
 no_more_lines (l ∷ ls) zero k e = cc
 no_more_lines (l ∷ ls) (suc j) k e = omega (arith, no_more_lines ls j k e)
 
--- As many lines as nodes, and they can be counted.
+-- As many lines as nodes.
 lines_long : (rs : List Row) (n : ℕ) → length (node_lines_from n rs) ≡ length rs
 lines_long [] n = refl
 lines_long (r ∷ rs) n = ap suc (lines_long rs (suc n))
@@ -46,12 +43,3 @@ lines_long (r ∷ rs) n = ap suc (lines_long rs (suc n))
 pub as_many_lines : (s : Shown) → node_count s ≡ length (node_lines s)
 as_many_lines (bus rs) = sym (lines_long rs 0)
 as_many_lines (void k) = refl
-
-pub few_nodes : (r : Record) → node_count (shown r) ≤ 63
-few_nodes r = by_cause r.cause
-  where
-    by_cause : (k : Option Cause) → node_count (shown_with k (take r.settled.tree.finished r.settled.tree.rows)) ≤ 63
-    by_cause (Some k) = omega arith
-    by_cause None =
-        let few : length (take r.settled.tree.finished r.settled.tree.rows) ≤ 63 = omega (arith, length-take r.settled.tree.finished r.settled.tree.rows, r.settled.has_room.0) in
-        few

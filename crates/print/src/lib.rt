@@ -25,7 +25,7 @@ use survey::record::Record;
 pub const LINE_LIMIT: usize = 512;
 
 // How many lines the print of a record has: one, and one for each node.
-#[tactic(auto, using(crate::proofs::Printing::few_nodes, crate::proofs::Printing::as_many_lines))]
+#[tactic(auto, using(crate::proofs::Printing::as_many_lines))]
 pub fn line_count(record: &Record) -> usize
     ensures is_their_count { (reset : ℕ) → result ≡ length (print_lines reset (shown «record».now)) }
 {

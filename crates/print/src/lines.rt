@@ -19,7 +19,7 @@ pub(crate) fn reset_line(reset: usize, nodes: usize) -> Line
     line
 }
 
-// A stop, its number and its place each behind a label.
+// A stop, its number and its place each behind a label. (The line of a bus tells one number fewer, and stays for itself.)
 fn stop_line(reset: usize, label: &[u8], number: u8, place_label: &[u8], place: usize) -> Line
     requires labels_are_short { length label.now + length place_label.now ≤ 20 }
     ensures is_the_line_of_the_stop { written result ≡ stop_line label.now place_label.now reset number place }

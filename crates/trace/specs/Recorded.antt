@@ -40,10 +40,11 @@ abbrev pub ending_in : ℕ → List (List ℕ) → Result ⊤ SourceStop
 ending_in before [] = Ok tt
 ending_in before (first ∷ others) = ending_at (kind_of first) (before + 1) (ending_in (before + 1) others)
 
--- What waits in the lines that a reader has left, and how they end.
+-- What waits in the lines that a reader has left.
 abbrev pub waiting_ahead : Reader → List ℕ
 waiting_ahead reader = waiting_in (lines_left reader)
 
+-- How these lines end.
 abbrev pub ending_ahead : Reader → Result ⊤ SourceStop
 ending_ahead reader = ending_in (lines_before reader) (lines_left reader)
 

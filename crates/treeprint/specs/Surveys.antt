@@ -1,6 +1,5 @@
 -- What the words that a trace records behind a reset come to.
-use Rattle.std.specs.Prelude.{◌≡◌, ℕ, List, Some, None, Ok, Err, Option, Result}
-use Rattle.source.specs.declared.Ending.{Ending}
+use Rattle.std.specs.Prelude.{◌≡◌, ℕ, ⊤, List, Some, None, Ok, Err, Option, Result}
 use Rattle.source.specs.declared.SourceStop.{SourceStop}
 use Rattle.stops.specs.declared.FillStop.{FillStop}
 use Rattle.stops.specs.declared.FillStop.TheVariants.{Survey, Source}
@@ -15,10 +14,10 @@ stop_of (Err (Survey n s)) = None
 stop_of (Err (Source n s)) = Some s
 
 -- The record s of these words, and the stop of their source: a gathering to which nothing was offered is filled from a source in which they wait, and then settled.
-pub record Surveyed (words : List ℕ) (e : Ending) (s : Shown) (stop : Option SourceStop) : Type 0 where
+pub record Surveyed (words : List ℕ) (e : Result ⊤ SourceStop) (s : Shown) (stop : Option SourceStop) : Type 0 where
   pub answer : Result ℕ FillStop
   pub left : List ℕ
-  pub after : Ending
+  pub after : Result ⊤ SourceStop
   pub gathering : Gathered
   pub fills : FillCall nothing_offered words e answer left after gathering
   pub settles : SettleCall gathering s
