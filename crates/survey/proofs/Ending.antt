@@ -124,10 +124,6 @@ old ms cs = drop (downs ms) cs
 abbrev pub ends_taken : List Mark → List Cabling → List End
 ends_taken ms cs = ends_from (nodes_in (old ms cs)) (young ms cs)
 
-ends_from_long : (n : ℕ) (cs : List Cabling) → length (ends_from n cs) ≡ length cs
-ends_from_long n [] = refl
-ends_from_long n (c ∷ cs) = ap suc (ends_from_long (n + size c) cs)
-
 module _ (x : Fields) (ms : List Mark) (cs : List Cabling) (few : downs ms ≤ length cs) where
   p : Parted (downs ms) cs
   p = parted (downs ms) cs few
@@ -137,9 +133,6 @@ module _ (x : Fields) (ms : List Mark) (cs : List Cabling) (few : downs ms ≤ l
 
   pub ends_parted : ends_of cs ≡ ends_of (old ms cs) ++ ends_taken ms cs
   ends_parted = p.ends
-
-  pub ends_taken_long : length (ends_taken ms cs) ≡ downs ms
-  ends_taken_long = ends_from_long (nodes_in (old ms cs)) (young ms cs) ∙ p.long
 
   pub old_long : length (old ms cs) + downs ms ≡ length cs
   old_long = p.left

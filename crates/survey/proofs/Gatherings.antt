@@ -1,8 +1,10 @@
 -- What always holds of a gathering.
-use Rattle.std.proofs.Common.{◌≡◌, ℕ, ◌<◌, true, false, List, [], ◌∷◌, ◌++◌, length, None, Ok, sym, ap, subst, arith, length-append}
+use Rattle.std.proofs.Common.{◌≡◌, ℕ, ◌-◌, ◌<◌, true, false, List, [], ◌∷◌, ◌++◌, length, get_or, None, Ok, Option, sym, ap, ◌∙◌, ap₂, subst, arith, length-append}
 use Rattle.selfid.specs.declared.packet.Packet.{Packet}
 use Rattle.selfid.specs.Reading.{packet_in}
+use Rattle.selfid.specs.Packets.{inverse_of}
 use Rattle.selfid.specs.Marks.{ups, downs}
+use Rattle.judging.specs.declared.flaw.Flaw.{Flaw}
 use Rattle.judging.specs.Standing.{packets_taken, inverse_due, whole}
 use Rattle.judging.specs.Beginnings.{Begins}
 use Rattle.judging.specs.Tests.{packet_tests, Tested, Verdict}
@@ -13,7 +15,8 @@ use Rattle.survey.specs.Judging.{judged}
 use Rattle.survey.specs.Hearing.{heard, CanHear}
 use Rattle.survey.specs.Tallies.{CountsTally, TurnTallies, MarksTally, FieldsTally, RowsTally, EndsTally}
 use Rattle.survey.proofs.Tallying.{Tally, MayCome, can_hear}
-use Rattle.survey.proofs.Taking.{hears, may_come, packet_taken, inverse_taken}
+use Rattle.survey.proofs.Taking.{hears, may_come, packet_taken, inverse_taken, newest_packet}
+use Rattle.survey.proofs.Judgement.{verdict_packet}
 use Rattle.survey.proofs.Verdicts.{packet_tested}
 
 -- The quadlets taken.
@@ -24,9 +27,16 @@ module _ (g : Gathering) where
   pub tally_of : Tally (packets_taken (quadlets_of g)) g.tree
   tally_of = record { counts = g.counts_tally; turn = g.turn_tallies; marks = g.marks_tally; fields = g.fields_tally; rows = g.rows_tally; ends = g.ends_tally }
 
-  pub tested_of : (q : ℕ) → whole (quadlets_of g) ≡ false → inverse_due (quadlets_of g) ≡ false → Tested packet_tests (quadlets_of g) q (judged g.tree q)
+  tested_of : (q : ℕ) → whole (quadlets_of g) ≡ false → inverse_due (quadlets_of g) ≡ false → Tested packet_tests (quadlets_of g) q (judged g.tree q)
   tested_of q w d =
       packet_tested (quadlets_of g) q g.tree g.begins w d g.counts_tally.0 g.counts_tally.1 g.counts_tally.2 (ap ups g.marks_tally) (ap downs g.marks_tally)
+
+  -- The verdict on a quadlet that is due as a packet, and the quadlet that is due as an inverse.
+  pub verdict_of : (q : ℕ) (v : Option Flaw) → false ≡ whole (quadlets_of g) → false ≡ inverse_due (quadlets_of g) → v ≡ judged g.tree q → Verdict (quadlets_of g) q v
+  verdict_of q v w d f = verdict_packet (quadlets_of g) q g.begins (sym w) (sym d) v (subst (Tested packet_tests (quadlets_of g) q) (sym f) (tested_of q (sym w) (sym d)))
+
+  pub due_inverse : (xs : List ℕ) (n i : ℕ) → xs ≡ quadlets_of g → n ≡ length (quadlets_of g) → true ≡ inverse_due (quadlets_of g) → i ≡ inverse_of (get_or xs (n - 1) 0) → i ≡ inverse_of (get_or (packets_taken (quadlets_of g)) 0 0)
+  due_inverse xs n i e l d f = f ∙ ap₂ (λ (ys : List ℕ) (m : ℕ). inverse_of (get_or ys (m - 1) 0)) e l ∙ ap inverse_of (sym (newest_packet (quadlets_of g) (sym d)))
 
 -- What must hold of a gathering that has taken qs, with the tree t.
 abbrev pub Facts : List ℕ → Tree → Type 0

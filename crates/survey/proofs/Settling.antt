@@ -1,5 +1,5 @@
 -- What a gathering begins with, and what it settles to.
-use Rattle.std.proofs.Common.{◌≡◌, ℕ, zero, suc, true, false, [], length, Some, None, sym, refl, ap, ◌∙◌, subst, inl, inr, arith}
+use Rattle.std.proofs.Common.{◌≡◌, ℕ, zero, suc, true, false, [], length, None, sym, refl, ap, ◌∙◌, subst, inl, inr, arith}
 use Rattle.selfid.specs.Cabling.{Cabling, node, Ports, end, plain, absent}
 use Rattle.selfid.specs.Announcement.{announcement}
 use Rattle.selfid.specs.Reading.{fields_in}
@@ -8,8 +8,7 @@ use Rattle.judging.specs.Beginnings.{Announces, Begins}
 use Rattle.judging.specs.Standing.{whole}
 use Rattle.judging.proofs.Recognition.{whole_announced, announced_whole}
 use Rattle.judging.proofs.Rebuilt.{rebuilt}
-use Rattle.stops.specs.declared.Spoil.{Spoil}
-use Rattle.stops.specs.declared.Cause.TheVariants.{SpoiledBy, NotWhole}
+use Rattle.stops.specs.declared.Cause.TheVariants.{NotWhole}
 use Rattle.survey.specs.declared.gathering.Gathering.{Gathering}
 use Rattle.survey.specs.declared.tree.Tree.{Tree}
 use Rattle.survey.specs.Waiting.{rows_of}
@@ -64,6 +63,3 @@ module _ (g : Gathering) (unspoiled : g.spoil ≡ None) where
 
   pub settles_early : whole (quadlets_of g) ≡ false → SettleCall (gathered g) (void (NotWhole (length (quadlets_of g))))
   settles_early w = unless_spoiled (inr (record { none_announces = λ c a. apart (whole (quadlets_of g)) (announced_whole c (quadlets_of g) a) w; begins = g.begins; cause = refl }))
-
-pub settles_spoiled : (g : Gathering) (k : Spoil) → g.spoil ≡ Some k → SettleCall (gathered g) (void (SpoiledBy k))
-settles_spoiled g k e = subst (λ s. SettledAfter s (quadlets_of g) (void (SpoiledBy k))) (sym e) refl

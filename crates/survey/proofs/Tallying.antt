@@ -22,7 +22,7 @@ use Rattle.survey.specs.Hearing.{told_limit, node_marks, told_marks, heard_parts
 use Rattle.survey.specs.Tallies.{cablings_of, CountsTally, TurnTallies, MarksTally, FieldsTally, RowsTally, EndsTally}
 use Rattle.survey.proofs.Verdicts.{Layout, layout}
 use Rattle.survey.proofs.Ending.{rows_long as rows_as_nodes, ends_long as ends_as_cablings, ends_are_ports}
-use Rattle.survey.proofs.Telling.{padded, padded_twice, ups_padded, downs_padded, ups_in_front, downs_in_front}
+use Rattle.survey.proofs.Telling.{padded, padded_twice, ups_padded, downs_padded, take_padded}
 
 -- All that tallies.
 pub record Tally (ps : List ℕ) (t : Tree) : Type 0 where
@@ -109,9 +109,6 @@ module _ {ps : List ℕ} {t : Tree} {q : ℕ} {p : Packet} (tally : Tally ps t) 
       early : marks_before (suc t.turn) ≤ port_limit → Front
       early h = record { ms = then.marks.items; few = omega (arith, ap length marks_now, long_now, h); n = 0; same = sym (append-nil then.marks.items) }
 
-      five : List Mark
-      five = take 5 (extension_in q).marks
-
       go : (k : ℕ) → t.turn ≡ k → Front
       go zero k = early (omega (arith, k))
       go (suc zero) k = early (omega (arith, k))
@@ -130,14 +127,16 @@ module _ {ps : List ℕ} {t : Tree} {q : ℕ} {p : Packet} (tally : Tally ps t) 
       go (suc (suc (suc k))) e = absurd (omega (arith, e, tally.turn.0))
 
   -- So the marks of the ports have the same.
-  ports_padded : (f : Front) → node_marks then ≡ take port_limit (padded f.ms (f.n + port_limit))
-  ports_padded f = ap (λ (x : List Mark). take port_limit (padded x port_limit)) f.same ∙ ap (take port_limit) (padded_twice f.ms f.n port_limit)
+  ports_padded : (f : Front) → (m : ℕ) × (node_marks then ≡ padded f.ms m)
+  ports_padded f =
+      let (m, e) = take_padded f.ms port_limit (f.n + port_limit) f.few in
+      (m, ap (λ (x : List Mark). take port_limit (padded x port_limit)) f.same ∙ ap (take port_limit) (padded_twice f.ms f.n port_limit) ∙ e)
 
   pub ups_of_ports : ups (node_marks then) ≡ ups then.marks.items
-  ups_of_ports = let f = in_front in ap ups (ports_padded f) ∙ ups_in_front f.ms port_limit (f.n + port_limit) f.few ∙ sym (ups_padded f.ms f.n) ∙ ap ups (sym f.same)
+  ups_of_ports = let (m, e) = ports_padded in_front in ap ups e ∙ ups_padded in_front.ms m ∙ sym (ups_padded in_front.ms in_front.n) ∙ ap ups (sym in_front.same)
 
   pub downs_of_ports : downs (node_marks then) ≡ downs then.marks.items
-  downs_of_ports = let f = in_front in ap downs (ports_padded f) ∙ downs_in_front f.ms port_limit (f.n + port_limit) f.few ∙ sym (downs_padded f.ms f.n) ∙ ap downs (sym f.same)
+  downs_of_ports = let (m, e) = ports_padded in_front in ap downs e ∙ downs_padded in_front.ms m ∙ sym (downs_padded in_front.ms in_front.n) ∙ ap downs (sym in_front.same)
 
   -- The loose ends are those of the cablings that wait.
   pub ends_were : t.ends.items ≡ ends_of (cablings_of ps)

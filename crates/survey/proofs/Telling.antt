@@ -28,23 +28,10 @@ downs_padded (Open ∷ ms) n = downs_padded ms n
 downs_padded (Up ∷ ms) n = downs_padded ms n
 downs_padded (Down ∷ ms) n = ap suc (downs_padded ms n)
 
--- Behind the last port no mark is up or down.
-pub ups_in_front : (ms : List Mark) (k n : ℕ) → length ms ≤ k → ups (take k (padded ms n)) ≡ ups ms
-ups_in_front [] zero n h = refl
-ups_in_front [] (suc k) zero h = refl
-ups_in_front [] (suc k) (suc n) h = ups_in_front [] k n (omega arith)
-ups_in_front (m ∷ ms) zero n h = absurd (omega arith)
-ups_in_front (Absent ∷ ms) (suc k) n h = ups_in_front ms k n (omega arith)
-ups_in_front (Open ∷ ms) (suc k) n h = ups_in_front ms k n (omega arith)
-ups_in_front (Up ∷ ms) (suc k) n h = ap suc (ups_in_front ms k n (omega arith))
-ups_in_front (Down ∷ ms) (suc k) n h = ups_in_front ms k n (omega arith)
-
-pub downs_in_front : (ms : List Mark) (k n : ℕ) → length ms ≤ k → downs (take k (padded ms n)) ≡ downs ms
-downs_in_front [] zero n h = refl
-downs_in_front [] (suc k) zero h = refl
-downs_in_front [] (suc k) (suc n) h = downs_in_front [] k n (omega arith)
-downs_in_front (m ∷ ms) zero n h = absurd (omega arith)
-downs_in_front (Absent ∷ ms) (suc k) n h = downs_in_front ms k n (omega arith)
-downs_in_front (Open ∷ ms) (suc k) n h = downs_in_front ms k n (omega arith)
-downs_in_front (Up ∷ ms) (suc k) n h = downs_in_front ms k n (omega arith)
-downs_in_front (Down ∷ ms) (suc k) n h = ap suc (downs_in_front ms k n (omega arith))
+-- The first of them, all that are told among these, have absent ones behind them too.
+pub take_padded : (ms : List Mark) (k n : ℕ) → length ms ≤ k → (m : ℕ) × (take k (padded ms n) ≡ padded ms m)
+take_padded [] zero n h = (0, refl)
+take_padded [] (suc k) zero h = (0, refl)
+take_padded [] (suc k) (suc n) h = let (m, e) = take_padded [] k n (omega arith) in (suc m, ap {B = List Mark} (λ r. Absent ∷ r) e)
+take_padded (x ∷ ms) zero n h = absurd (omega arith)
+take_padded (x ∷ ms) (suc k) n h = let (m, e) = take_padded ms k n (omega arith) in (m, ap {B = List Mark} (λ r. x ∷ r) e)

@@ -16,17 +16,11 @@ impl Gathering {
             return Err(FillStop::Survey(0, QuadletStop::Spoiled(spoil.place)));
         }
         let mut taken = 0;
-        loop {
-            match source.draw() {
-                Ok(Some(quadlet)) => {
-                    if let Err(stop) = self.quadlet(quadlet) {
-                        return Err(FillStop::Survey(taken, stop));
-                    }
-                    taken += 1;
-                }
-                Ok(None) => return Ok(taken),
-                Err(stop) => return Err(FillStop::Source(taken, stop)),
-            }
+        while let Some(quadlet) = source.draw().map_err(|stop| FillStop::Source(taken, stop))? {
+            self.quadlet(quadlet)
+                .map_err(|stop| FillStop::Survey(taken, stop))?;
+            taken += 1;
         }
+        Ok(taken)
     }
 }
