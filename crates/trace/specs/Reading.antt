@@ -15,34 +15,40 @@ lines_left reader = lines_of reader.rest.now
 abbrev pub lines_before : Reader → ℕ
 lines_before reader = reader.lines_read
 
--- What a reader tells, by its bytes: a line that can be read with its number, a stop, or the end.
+-- A line that can be read, by its bytes and its number.
 pub data Told : Type 0 where
   a_note : List ℕ → ℕ → Told
   a_reset : List ℕ → ℕ → Told
   some_words : List ℕ → ℕ → Told
-  a_stop : TraceStop → Told
-  the_end : Told
 
--- What a call tells.
-abbrev pub told : Option (Result Token TraceStop) → Told
-told None = the_end
-told (Some (Err stop)) = a_stop stop
-told (Some (Ok (Note line place))) = a_note line.now place
-told (Some (Ok (Reset line place))) = a_reset line.now place
-told (Some (Ok (Words line place))) = some_words line.now place
+-- What a token tells.
+abbrev pub token_told : Token → Told
+token_told (Note line place) = a_note line.now place
+token_told (Reset line place) = a_reset line.now place
+token_told (Words line place) = some_words line.now place
+
+-- What a line tells that was read: of a bad line the stop.
+abbrev pub line_told : Result Token TraceStop → Result Told TraceStop
+line_told (Ok token) = Ok (token_told token)
+line_told (Err stop) = Err stop
+
+-- What a call tells: nothing at the end.
+abbrev pub told : Option (Result Token TraceStop) → Option (Result Told TraceStop)
+told None = None
+told (Some line) = Some (line_told line)
 
 -- What is told of a line of this kind, its bytes and its number.
-abbrev pub told_of : Kind → List ℕ → ℕ → Told
-told_of note bytes place = a_note bytes place
-told_of reset bytes place = a_reset bytes place
-told_of words bytes place = some_words bytes place
-told_of too_long bytes place = a_stop (LongLine place)
-told_of malformed bytes place = a_stop (Malformed place)
+abbrev pub told_of : Kind → List ℕ → ℕ → Result Told TraceStop
+told_of note bytes place = Ok (a_note bytes place)
+told_of reset bytes place = Ok (a_reset bytes place)
+told_of words bytes place = Ok (some_words bytes place)
+told_of too_long bytes place = Err (LongLine place)
+told_of malformed bytes place = Err (Malformed place)
 
 -- What is told of the first line, where so many were read before.
-abbrev pub first_told : ℕ → List (List ℕ) → Told
-first_told before [] = the_end
-first_told before (first ∷ others) = told_of (kind_of first) first (before + 1)
+abbrev pub first_told : ℕ → List (List ℕ) → Option (Result Told TraceStop)
+first_told before [] = None
+first_told before (first ∷ others) = Some (told_of (kind_of first) first (before + 1))
 
 -- A call that reads a line: it tells the first that is left, leaves the others, and counts it.
 pub record ReadsOne (before : Reader) (line : Option (Result Token TraceStop)) (after : Reader) : Type 0 where

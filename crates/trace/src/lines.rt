@@ -65,6 +65,7 @@ pub(crate) fn read_word(digits: &[u8]) -> u32
     requires are_eight_digits { is_word digits.now ≡ true }
     ensures is_their_value { result ≡ word_value digits.now }
 {
+    // No fold: its closure is not told that the value so far leaves room for one more digit.
     let mut value: u32 = 0;
     for byte in digits {
         value = value * 16 + u32::from(digit_value(*byte).unwrap());

@@ -1,9 +1,9 @@
 //! The calls of a reader.
 
-ghost use Rattle.std.specs.Prelude.{◌≡◌, ◌+◌, Some, length};
+ghost use Rattle.std.specs.Prelude.{◌≡◌, ◌+◌, length};
 ghost use Rattle.std.specs.Iterator.{item_count};
 ghost use Rattle.trace.specs.Lines.{kind_of, lines_of};
-ghost use Rattle.trace.specs.Reading.{ReadsOne, behind_reset, has_reset, lines_before, lines_left, told, told_of};
+ghost use Rattle.trace.specs.Reading.{ReadsOne, behind_reset, has_reset, line_told, lines_before, lines_left, told_of};
 
 use super::Reader;
 use crate::lines::{cut_line, is_note, is_reset, is_words};
@@ -13,7 +13,7 @@ const LONGEST_LINE: usize = 255;
 
 // What the line of this number tells, or why it cannot be read.
 fn read_line(line: &[u8], place: usize) -> Result<Token<'_>, TraceStop>
-    ensures tells_its_kind { told (Some result) ≡ told_of (kind_of line.now) line.now place }
+    ensures tells_its_kind { line_told result ≡ told_of (kind_of line.now) line.now place }
 {
     if line.len() > LONGEST_LINE {
         return Err(TraceStop::LongLine(place));

@@ -14,6 +14,7 @@ fn find_words<'a>(reader: &mut Reader<'a>) -> Result<Option<&'a [u8]>, SourceSto
     ensures gives_the_first_that_waits_or_the_ending { FindsWords reader.old result reader.new }
     ensures keeps_the_ending { ending_ahead reader.new ≡ ending_ahead reader.old }
 {
+    // A second reader looks ahead, so that the first stays in front of what ends the source. (No find: it would pass over that line.)
     let mut ahead = *reader;
     while let Some(line) = ahead.next() {
         match line? {
