@@ -1,12 +1,12 @@
 -- Words put into a row, and the packets of a node one after the other.
-use Rattle.std.proofs.Common.{◌≡◌, ℕ, zero, suc, ◌+◌, ◌-◌, ◌*◌, ◌<◌, ◌≤◌, Bool, true, false, cond, not, ◌||◌, ◌==◌, ◌⊎◌, List, [], ◌∷◌, ◌++◌, length, get_or, take, drop, inl, inr, subst, zero-add, sym, refl, ap, ◌∙◌, ap₂, append_assoc, append-nil, add-zero, arith, length-append, length-drop, length-take}
+use Rattle.std.proofs.Common.{◌≡◌, ℕ, zero, suc, ◌+◌, ◌-◌, ◌*◌, ◌<◌, ◌≤◌, Bool, true, false, cond, not, ◌||◌, ◌==◌, ◌⊎◌, List, [], ◌∷◌, ◌++◌, length, get_or, take, drop, set, inl, inr, subst, zero-add, sym, refl, ap, ◌∙◌, ap₂, append_assoc, append-nil, add-zero, add-one, arith, length-append, length-drop, length-take}
 use denote.Param.Members.{Mut}
 use Rattle.std.specs.Fn.{Called}
 use Rattle.std.specs.Array.{IsFromFnResult, IsFromFnResultFrom}
 use Rattle.std.specs.List.{list_any, take_while}
 use Rattle.std.proofs.lemmas.Bool.{cases_Bool, cases_lt}
 use Rattle.std.proofs.lemmas.List.Recursion.{same_from_clauses}
-use Rattle.std.proofs.lemmas.List.{nil_from_length, take-append-drop, take_at, drop_at, drop-drop, length-take-le, get_or-drop}
+use Rattle.std.proofs.lemmas.List.{nil_from_length, set_split, length-set, take-append-drop, take_at, drop_at, drop-drop, length-take-le, get_or-drop}
 use Rattle.selfid.specs.declared.mark.Mark.{Mark}
 use Rattle.selfid.specs.declared.mark.Mark.TheVariants.{Absent, Open, Up, Down}
 use Rattle.selfid.specs.declared.node.Node.{Node}
@@ -144,6 +144,15 @@ put_more row i qs rs h =
     ∙ append_assoc (take i row) qs (rs ++ drop (i + length qs + length rs) row)
     ∙ ap (λ l. take i row ++ l) (sym (append_assoc qs rs (drop (i + length qs + length rs) row)))
     ∙ ap (λ n. take i row ++ ((qs ++ rs) ++ drop n row)) (omega (arith, length-append qs rs))
+
+put_one : (row : List ℕ) (i q : ℕ) → i < length row → set row i q ≡ put row i (q ∷ [])
+put_one row i q h = set_split row i q h ∙ ap (λ n. take i row ++ q ∷ drop n row) (sym (add-one i))
+
+pub put_two : (row : List ℕ) (i q r : ℕ) → i + 2 ≤ length row → set (set row i q) (i + 1) r ≡ put row i (q ∷ r ∷ [])
+put_two row i q r h =
+    put_one (set row i q) (i + 1) r (omega (arith, length-set row i q))
+    ∙ ap (λ l. put l (i + 1) (r ∷ [])) (put_one row i q (omega arith))
+    ∙ put_more row i (q ∷ []) (r ∷ []) (omega arith)
 
 pub length_put : (row : List ℕ) (i : ℕ) (qs : List ℕ) → i + length qs ≤ length row → length (put row i qs) ≡ length row
 length_put row i qs h = simp (length-append, length-take, length-drop) (omega arith)
