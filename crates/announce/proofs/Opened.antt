@@ -13,6 +13,7 @@ use Rattle.announce.specs.declared.described.RowPort.{RowPort}
 use Rattle.announce.specs.declared.frame.Frame.{Frame}
 use Rattle.announce.specs.declared.writing.Found.{Found}
 use Rattle.announce.specs.Description.{is_down, FieldsAt, ports_at, DescribesAt, DescribePorts, Describes}
+use Rattle.announce.specs.Reach.{Described}
 use Rattle.announce.specs.Rows.{HaveMarks, TellsNode}
 use Rattle.announce.specs.declared.writer.Writer.{Writer}
 use Rattle.announce.specs.Writing.{Writes, down_from, node_quadlets}
@@ -20,7 +21,7 @@ use Rattle.announce.proofs.Forests.{not_down, marked_down}
 use Rattle.announce.proofs.Told.{no_row, ports_here, node_here}
 use Rattle.announce.proofs.Marked.{same_codes}
 use Rattle.announce.proofs.Putting.{length_pairs, pairs_append, nothing_written, both_written, length_put}
-use Rattle.announce.proofs.Trees.{row_small, one_fields, marks_told}
+use Rattle.announce.proofs.Trees.{describe_one_cabling, row_small, one_fields, marks_told}
 use Rattle.announce.proofs.Placing.{size_told}
 
 -- A node that is not written yet, and those of its ports whose children are not written yet.
@@ -59,7 +60,7 @@ pub record Writing (rows : List Row) (c : Cabling) (frames : List Frame) (number
   pub writes : Writes start now (with_inverses written)
 
 -- Every open node is still to be written.
-pub few_open : (rows : List Row) (fs : List Frame) (os : List OpenNode) → AllOpen rows fs os → length fs ≤ nodes_left os
+few_open : (rows : List Row) (fs : List Frame) (os : List OpenNode) → AllOpen rows fs os → length fs ≤ nodes_left os
 few_open rows [] [] a = omega arith
 few_open rows [] (o ∷ os) a = absurd a
 few_open rows (f ∷ fs) [] a = absurd a
@@ -117,7 +118,7 @@ next_child rows (down c ps) (p ∷ ports) i f d e =
     record { child = c; behind = ps; passed = 0; place = sym (ap (λ r. r.next) h); describes = subst (λ j. DescribesAt rows j c) (ap (λ r. r.child) h) d.1; others = d.2; sizes = refl; sends = λ n. refl }
 
 -- The walk begins at the root.
-pub begins : (rows : List Row) (c : Cabling) (w : Writer) → DescribesAt rows 0 c → Writing rows c (record { row = 0; port = 0 } ∷ []) 0 w w
+begins : (rows : List Row) (c : Cabling) (w : Writer) → DescribesAt rows 0 c → Writing rows c (record { row = 0; port = 0 } ∷ []) 0 w w
 begins rows (node x ps) w d =
     record {
       written = [];
@@ -157,18 +158,18 @@ top_opened : (rows : List Row) (i : ℕ) (y : Fields) (qs : Ports) → Describes
 top_opened rows i y qs d = record { fields = d.0; marks = marks_told rows qs (ports_at rows i) d.1; left = d.1 }
 
 -- The row of a frame is a row, and there are no more frames than nodes to be written.
-pub frame_row : (rows : List Row) (c : Cabling) (f : Frame) (fs : List Frame) (number : ℕ) (start now : Writer) → Writing rows c (f ∷ fs) number start now → f.row < length rows
+frame_row : (rows : List Row) (c : Cabling) (f : Frame) (fs : List Frame) (number : ℕ) (start now : Writer) → Writing rows c (f ∷ fs) number start now → f.row < length rows
 frame_row rows c f fs number start now w = go w.opened w.stands
   where
     go : (os : List OpenNode) → AllOpen rows (f ∷ fs) os → f.row < length rows
     go [] a = absurd a
     go (o ∷ os) a = row_small rows f.row o.fields a.0.fields
 
-pub frames_few : (rows : List Row) (c : Cabling) (fs : List Frame) (number : ℕ) (start now : Writer) → Describes rows c → Writing rows c fs number start now → number + length fs ≤ length rows
+frames_few : (rows : List Row) (c : Cabling) (fs : List Frame) (number : ℕ) (start now : Writer) → Describes rows c → Writing rows c fs number start now → number + length fs ≤ length rows
 frames_few rows c fs number start now t w = omega (arith, w.count, few_open rows fs w.opened w.stands, size_told rows c t)
 
 -- What a look through the ports of the frame's row tells.
-pub looked : (rows : List Row) (f : Frame) (r : Option Found) → f.row < length rows → r ≡ down_from f.port (drop f.port (get_or rows f.row no_row).ports) → down_from f.port (drop f.port (ports_at rows f.row)) ≡ r
+looked : (rows : List Row) (f : Frame) (r : Option Found) → f.row < length rows → r ≡ down_from f.port (drop f.port (get_or rows f.row no_row).ports) → down_from f.port (drop f.port (ports_at rows f.row)) ≡ r
 looked rows f r h e = ap (λ ports. down_from f.port (drop f.port ports)) (ports_here rows f.row no_row h) ∙ sym e
 
 module _ (rows : List Row) (c : Cabling) (f : Frame) (fs : List Frame) (number : ℕ) (start now : Writer) where
@@ -190,7 +191,7 @@ module _ (rows : List Row) (c : Cabling) (f : Frame) (fs : List Frame) (number :
       let n = next_child rows o.left (drop f.port (ports_at rows f.row)) f.port g a.0.left d in
       child_opened g w o os e n n.child a.0 a.1 n.describes n.sizes (n.sends number)
 
-  pub descends : (g : Found) → Writing rows c (f ∷ fs) number start now → Some g ≡ down_from f.port (drop f.port (get_or rows f.row no_row).ports) → Writing rows c (record { row = g.child; port = 0 } ∷ record { row = f.row; port = g.next } ∷ fs) number start now
+  descends : (g : Found) → Writing rows c (f ∷ fs) number start now → Some g ≡ down_from f.port (drop f.port (get_or rows f.row no_row).ports) → Writing rows c (record { row = g.child; port = 0 } ∷ record { row = f.row; port = g.next } ∷ fs) number start now
   descends g w d = descend g w w.opened refl w.stands (looked rows f (Some g) (frame_row rows c f fs number start now w) d)
 
   -- None is left: the node itself is the next that is written.
@@ -232,10 +233,10 @@ module _ (rows : List Row) (c : Cabling) (f : Frame) (fs : List Frame) (number :
     length_row : length now.words.now ≡ length start.words.now
     length_row = ap length w.writes.written ∙ length_put start.words.now start.at (with_inverses w.written) (omega (arith, length_pairs w.written, length_pairs (packets c), long))
 
-    pub node_room : now.at + length (node_quadlets number x) ≤ length now.words.now
+    node_room : now.at + length (node_quadlets number x) ≤ length now.words.now
     node_room = omega (arith, length_row, w.writes.behind, length_pairs w.written, length_pairs own, length_pairs (packets c), long)
 
-    pub ends : (after : Writer) → Writes now after (node_quadlets number x) → Writing rows c fs (number + 1) start after
+    ends : (after : Writer) → Writes now after (node_quadlets number x) → Writing rows c fs (number + 1) start after
     ends after v =
         record {
           written = w.written ++ own;
@@ -246,16 +247,48 @@ module _ (rows : List Row) (c : Cabling) (f : Frame) (fs : List Frame) (number :
           writes = rw (pairs_append w.written own) (both_written start now after (with_inverses w.written) (with_inverses own) (omega arith) w.writes v);
         }
 
-  pub node_next : (x : Node) (w : Writing rows c (f ∷ fs) number start now) → TellsNode (get_or rows f.row no_row) x → None ≡ down_from f.port (drop f.port (get_or rows f.row no_row).ports) → NodeNext x w
+  node_next : (x : Node) (w : Writing rows c (f ∷ fs) number start now) → TellsNode (get_or rows f.row no_row) x → None ≡ down_from f.port (drop f.port (get_or rows f.row no_row).ports) → NodeNext x w
   node_next x w told d =
       let h = frame_row rows c f fs number start now w in
       let (xf, xm) = node_here rows f.row no_row x h told in
       node_is x w w.opened refl w.stands xf xm (looked rows f None h d)
 
 -- No frame is left: all is written.
-pub all_written : (rows : List Row) (c : Cabling) (number : ℕ) (start now : Writer) → Writing rows c [] number start now → Writes start now (announcement c)
+all_written : (rows : List Row) (c : Cabling) (number : ℕ) (start now : Writer) → Writing rows c [] number start now → Writes start now (announcement c)
 all_written rows c number start now w = go w.opened w.stands w.all
   where
     go : (os : List OpenNode) → AllOpen rows [] os → w.written ++ rest number os ≡ packets c → Writes start now (announcement c)
     go [] a e = rw (sym (append-nil w.written) ∙ e) at w.writes
     go (o ∷ os) a e = absurd a
+
+-- Where the walk stands, in the cabling that the rows describe.
+pub record Walked (rows : List Row) (fs : List Frame) (number : ℕ) (start now : Writer) : Type 0 where
+  pub known : Described rows
+  pub room : start.at + length (announcement known.cabling) ≤ length start.words.now
+  pub writing : Writing rows known.cabling fs number start now
+
+pub walk_begins : (rows : List Row) (known : Described rows) (w : Writer) → w.at + length (announcement known.cabling) ≤ length w.words.now → Walked rows (record { row = 0; port = 0 } ∷ []) 0 w w
+walk_begins rows known w room = record { known = known; room = room; writing = begins rows known.cabling w known.describes.root }
+
+pub few_frames : (rows : List Row) (fs : List Frame) (number : ℕ) (start now : Writer) → Walked rows fs number start now → number + length fs ≤ length rows
+few_frames rows fs number start now w = frames_few rows w.known.cabling fs number start now w.known.describes w.writing
+
+module _ (rows : List Row) (f : Frame) (fs : List Frame) (number : ℕ) (start now : Writer) (w : Walked rows (f ∷ fs) number start now) where
+  pub row_is : f.row < length rows
+  row_is = frame_row rows w.known.cabling f fs number start now w.writing
+
+  pub child_entered : (g : Found) → Some g ≡ down_from f.port (drop f.port (get_or rows f.row no_row).ports) → Walked rows (record { row = g.child; port = 0 } ∷ record { row = f.row; port = g.next } ∷ fs) number start now
+  child_entered g e = record { known = w.known; room = w.room; writing = descends rows w.known.cabling f fs number start now g w.writing e }
+
+  module _ (x : Node) (told : TellsNode (get_or rows f.row no_row) x) (none : None ≡ down_from f.port (drop f.port (get_or rows f.row no_row).ports)) where
+    abbrev next : NodeNext rows w.known.cabling f fs number start now x w.writing
+    next = node_next rows w.known.cabling f fs number start now x w.writing told none
+
+    pub room_left : now.at + length (node_quadlets number x) ≤ length now.words.now
+    room_left = node_room rows w.known.cabling f fs number start now x w.writing next w.room
+
+    pub node_done : (after : Writer) → Writes now after (node_quadlets number x) → Walked rows fs (number + 1) start after
+    node_done after v = record { known = w.known; room = w.room; writing = ends rows w.known.cabling f fs number start now x w.writing next w.room after v }
+
+pub walk_ends : (rows : List Row) (number : ℕ) (start now : Writer) → Walked rows [] number start now → (c : Cabling) → Describes rows c → Writes start now (announcement c)
+walk_ends rows number start now w c t = rw (describe_one_cabling rows c w.known.cabling t w.known.describes) (all_written rows w.known.cabling number start now w.writing)

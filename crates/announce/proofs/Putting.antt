@@ -1,19 +1,20 @@
 -- Words put into a row, and the packets of a node one after the other.
-use Rattle.std.proofs.Common.{◌≡◌, ℕ, zero, suc, ◌+◌, ◌-◌, ◌*◌, ◌<◌, ◌≤◌, Bool, true, false, cond, not, ◌||◌, ◌==◌, ◌⊎◌, List, [], ◌∷◌, ◌++◌, length, get_or, take, drop, inl, inr, subst, zero-add, sym, refl, ap, ◌∙◌, ap₂, append_assoc, append-nil, add-zero, arith, length-append, length-drop, length-take}
+use Rattle.std.proofs.Common.{◌≡◌, ℕ, zero, suc, ◌+◌, ◌-◌, ◌*◌, ◌<◌, ◌≤◌, Bool, true, false, cond, not, ◌||◌, ◌==◌, ◌⊎◌, List, [], ◌∷◌, ◌++◌, length, get_or, take, drop, set, inl, inr, subst, zero-add, sym, refl, ap, ◌∙◌, ap₂, append_assoc, append-nil, add-zero, add-one, arith, length-append, length-drop, length-take}
 use denote.Param.Members.{Mut}
 use Rattle.std.specs.Fn.{Called}
 use Rattle.std.specs.Array.{IsFromFnResult, IsFromFnResultFrom}
 use Rattle.std.specs.List.{list_any, take_while}
 use Rattle.std.proofs.lemmas.Bool.{cases_Bool, cases_lt}
 use Rattle.std.proofs.lemmas.List.Recursion.{same_from_clauses}
-use Rattle.std.proofs.lemmas.List.{nil_from_length, take-append-drop, take_at, drop_at, drop-drop, length-take-le, get_or-drop}
+use Rattle.std.proofs.lemmas.List.{nil_from_length, set_split, length-set, take-append-drop, take_at, drop_at, drop-drop, length-take-le, get_or-drop}
 use Rattle.selfid.specs.declared.mark.Mark.{Mark}
 use Rattle.selfid.specs.declared.mark.Mark.TheVariants.{Absent, Open, Up, Down}
+use Rattle.selfid.specs.declared.node.Node.{Node}
 use Rattle.selfid.specs.Marks.{mark_code, present}
 use Rattle.selfid.specs.Packets.{code_at, extension_word, inverse_of, with_inverses}
 use Rattle.selfid.specs.Nodes.{extensions}
 use Rattle.announce.specs.declared.writer.Writer.{Writer}
-use Rattle.announce.specs.Writing.{put, Writes}
+use Rattle.announce.specs.Writing.{put, Writes, node_quadlets}
 
 -- A mark that is there.
 abbrev pub is_there : Mark → Bool
@@ -144,6 +145,15 @@ put_more row i qs rs h =
     ∙ ap (λ l. take i row ++ l) (sym (append_assoc qs rs (drop (i + length qs + length rs) row)))
     ∙ ap (λ n. take i row ++ ((qs ++ rs) ++ drop n row)) (omega (arith, length-append qs rs))
 
+put_one : (row : List ℕ) (i q : ℕ) → i < length row → set row i q ≡ put row i (q ∷ [])
+put_one row i q h = set_split row i q h ∙ ap (λ n. take i row ++ q ∷ drop n row) (sym (add-one i))
+
+pub put_two : (row : List ℕ) (i q r : ℕ) → i + 2 ≤ length row → set (set row i q) (i + 1) r ≡ put row i (q ∷ r ∷ [])
+put_two row i q r h =
+    put_one (set row i q) (i + 1) r (omega (arith, length-set row i q))
+    ∙ ap (λ l. put l (i + 1) (r ∷ [])) (put_one row i q (omega arith))
+    ∙ put_more row i (q ∷ []) (r ∷ []) (omega arith)
+
 pub length_put : (row : List ℕ) (i : ℕ) (qs : List ℕ) → i + length qs ≤ length row → length (put row i qs) ≡ length row
 length_put row i qs h = simp (length-append, length-take, length-drop) (omega arith)
 
@@ -162,23 +172,28 @@ both_written a b c qs rs h p q =
       written = q.written ∙ ap₂ (λ r k. put r k rs) p.written p.behind ∙ put_more a.words.now a.at qs rs h;
     }
 
--- Before turn t the extensions before it are written.
-pub record HalfSent (n t : ℕ) (ms : List Mark) (before now : Writer) : Type 0 where
+-- Before turn t the extensions before it are written. There are so many turns as there are extensions, and room for these.
+pub record HalfSent (n t turns : ℕ) (ms : List Mark) (before now : Writer) : Type 0 where
   pub sent : List ℕ
-  pub turns : length sent ≡ t
+  pub so_far : length sent ≡ t
+  pub in_all : turns ≡ length (left 2 n 0 ms)
   pub all : sent ++ left 2 n t ms ≡ left 2 n 0 ms
+  pub room : before.at + length (with_inverses (left 2 n 0 ms)) ≤ length before.words.now
   pub writes : Writes before now (with_inverses sent)
 
-pub none_sent : (n : ℕ) (ms : List Mark) (w : Writer) → HalfSent n 0 ms w w
-none_sent n ms w = record { sent = []; turns = refl; all = refl; writes = nothing_written w }
+-- Packet zero is written into `row`, and no extension yet.
+pub none_sent : (n turns z : ℕ) (x : Node) (row w : Writer) → turns ≡ length (extensions 2 0 0 (drop 3 x.marks)) → row.at + length (node_quadlets n x) ≤ length row.words.now → Writes row w (with_inverses (z ∷ [])) → HalfSent n 0 turns x.marks w w
+none_sent n turns z x row w count room first =
+    let long : length w.words.now ≡ length row.words.now = ap length first.written ∙ length_put row.words.now row.at (with_inverses (z ∷ [])) (omega arith) in
+    record { sent = []; so_far = refl; in_all = count ∙ same_count 2 0 n 0 0 (drop 3 x.marks); all = refl; room = omega (arith, first.behind); writes = nothing_written w }
 
-module _ (n t : ℕ) (ms : List Mark) (before now : Writer) (h : HalfSent n t ms before now) where
+module _ (n t turns : ℕ) (ms : List Mark) (before now : Writer) (h : HalfSent n t turns ms before now) where
   abbrev word : ℕ
   word = extension_word n t (drop (8 * t + 3) ms) (present (drop 8 (drop (8 * t + 3) ms)))
 
-  module _ (more : t < length (left 2 n 0 ms)) where
+  module _ (more : t < turns) where
     this_left : (t < 2) × (present (drop (8 * t + 3) ms) ≡ true)
-    this_left = some_left 2 n t ms (omega (arith, ap length h.all, h.turns, length-append h.sent (left 2 n t ms)))
+    this_left = some_left 2 n t ms (omega (arith, ap length h.all, h.so_far, h.in_all, length-append h.sent (left 2 n t ms)))
 
     pub turn_small : t < 2
     turn_small = this_left.0
@@ -186,24 +201,25 @@ module _ (n t : ℕ) (ms : List Mark) (before now : Writer) (h : HalfSent n t ms
     here : left 2 n t ms ≡ word ∷ left 2 n (t + 1) ms
     here = left_more 2 n t ms this_left.0 this_left.1
 
-    module _ (room : before.at + length (with_inverses (left 2 n 0 ms)) ≤ length before.words.now) where
-      pub one_sent : (after : Writer) → Writes now after (with_inverses (word ∷ [])) → HalfSent n (t + 1) ms before after
-      one_sent after w =
-          record {
-            sent = h.sent ++ (word ∷ []);
-            turns = omega (arith, h.turns, length-append h.sent (word ∷ []));
-            all = append_assoc h.sent (word ∷ []) (left 2 n (t + 1) ms) ∙ ap (λ r. h.sent ++ r) (sym here) ∙ h.all;
-            writes = rw (pairs_append h.sent (word ∷ [])) (both_written before now after (with_inverses h.sent) (with_inverses (word ∷ [])) (omega arith) h.writes w);
-          }
+    pub one_sent : (after : Writer) → Writes now after (with_inverses (word ∷ [])) → HalfSent n (t + 1) turns ms before after
+    one_sent after w =
+        record {
+          sent = h.sent ++ (word ∷ []);
+          so_far = omega (arith, h.so_far, length-append h.sent (word ∷ []));
+          in_all = h.in_all;
+          all = append_assoc h.sent (word ∷ []) (left 2 n (t + 1) ms) ∙ ap (λ r. h.sent ++ r) (sym here) ∙ h.all;
+          room = h.room;
+          writes = rw (pairs_append h.sent (word ∷ [])) (both_written before now after (with_inverses h.sent) (with_inverses (word ∷ [])) (omega (arith, h.room)) h.writes w);
+        }
 
-      pub has_room : now.at + 2 ≤ length now.words.now
-      has_room =
-          let k = ap length h.all in
-          let long : length now.words.now ≡ length before.words.now = ap length h.writes.written ∙ length_put before.words.now before.at (with_inverses h.sent) (omega (arith, length_pairs h.sent, length_pairs (left 2 n 0 ms), k, length-append h.sent (left 2 n t ms))) in
-          omega (arith, long, h.writes.behind, length_pairs h.sent, length_pairs (left 2 n 0 ms), h.turns, more)
+    pub has_room : now.at + 2 ≤ length now.words.now
+    has_room =
+        let k = ap length h.all in
+        let long : length now.words.now ≡ length before.words.now = ap length h.writes.written ∙ length_put before.words.now before.at (with_inverses h.sent) (omega (arith, h.room, length_pairs h.sent, length_pairs (left 2 n 0 ms), k, length-append h.sent (left 2 n t ms))) in
+        omega (arith, long, h.room, h.writes.behind, length_pairs h.sent, length_pairs (left 2 n 0 ms), h.so_far, h.in_all, more)
 
-  pub all_sent : length (left 2 n 0 ms) ≤ t → Writes before now (with_inverses (left 2 n 0 ms))
+  pub all_sent : turns ≤ t → Writes before now (with_inverses (left 2 n 0 ms))
   all_sent past =
-      let e : left 2 n t ms ≡ [] = nil_from_length (left 2 n t ms) (omega (arith, ap length h.all, h.turns, length-append h.sent (left 2 n t ms))) in
+      let e : left 2 n t ms ≡ [] = nil_from_length (left 2 n t ms) (omega (arith, ap length h.all, h.so_far, h.in_all, length-append h.sent (left 2 n t ms))) in
       let s : h.sent ≡ left 2 n 0 ms = sym (append-nil h.sent) ∙ ap (λ r. h.sent ++ r) (sym e) ∙ h.all in
       rw s at h.writes

@@ -1,6 +1,7 @@
 -- How often numbers stand in lists, and sums over the numbers below n.
-use Rattle.std.proofs.Common.{◌≡◌, ℕ, zero, suc, ◌+◌, ◌*◌, ◌<◌, ◌≤◌, cond, eqb, ◌⊎◌, List, [], ◌∷◌, ◌++◌, length, sym, refl, ap, ◌∙◌, ap₂, inl, inr, add-mul, one-mul, zero-mul, mul-one, arith}
+use Rattle.std.proofs.Common.{◌≡◌, ℕ, zero, suc, ◌+◌, ◌*◌, ◌<◌, ◌≤◌, cond, eqb, ◌⊎◌, List, [], ◌∷◌, ◌++◌, length, sum_by, sym, refl, ap, ◌∙◌, ap₂, inl, inr, add-mul, one-mul, zero-mul, mul-one, arith}
 use Rattle.std.proofs.lemmas.Bool.{eq-eqb, ne_eqb, cases_lt}
+use Rattle.std.proofs.lemmas.List.Sums.{sum_by-cons}
 use Rattle.announce.specs.Description.{times}
 use Rattle.announce.specs.Reach.{onto}
 
@@ -47,18 +48,9 @@ pub total_one : (n : ℕ) → total (λ _. 1) n ≡ n
 total_one zero = refl
 total_one (suc n) = omega (arith, total_one n)
 
--- The sum of f over a list.
-abbrev pub over : (ℕ → ℕ) → List ℕ → ℕ
-over f [] = 0
-over f (x ∷ xs) = f x + over f xs
-
-pub over_append : (f : ℕ → ℕ) (xs ys : List ℕ) → over f (xs ++ ys) ≡ over f xs + over f ys
-over_append f [] ys = omega arith
-over_append f (x ∷ xs) ys = omega (arith, over_append f xs ys)
-
-pub over_one : (xs : List ℕ) → over (λ _. 1) xs ≡ length xs
-over_one [] = refl
-over_one (x ∷ xs) = omega (arith, over_one xs)
+pub sum_of_ones : (xs : List ℕ) → sum_by (λ _. 1) xs ≡ length xs
+sum_of_ones [] = refl
+sum_of_ones (x ∷ xs) = omega (arith, sum_by-cons {X = ℕ} (λ _. 1) x xs, sum_of_ones xs)
 
 -- One number among those below n.
 total_none : (f : ℕ → ℕ) (x n : ℕ) → n ≤ x → total (λ i. is i x * f i) n ≡ 0
@@ -75,24 +67,24 @@ total_is f x (suc n) h = go (cases_lt x n) (total_is f x n)
         let e : n ≡ x = omega arith in
         rw e (rw (is_same x) (omega (arith, total_none f x x (omega arith), one-mul (f x))))
 
--- A list whose numbers are below n, by how often each stands in it.
-pub over_total : (f : ℕ → ℕ) (xs : List ℕ) (n : ℕ) → ((i : ℕ) → n ≤ i → times i xs ≡ 0) → over f xs ≡ total (λ i. times i xs * f i) n
-over_total f [] n h = sym (all_none n)
+-- A sum over a list whose numbers are below n, by how often each stands in it.
+pub sum_by_total : (f : ℕ → ℕ) (xs : List ℕ) (n : ℕ) → ((i : ℕ) → n ≤ i → times i xs ≡ 0) → sum_by f xs ≡ total (λ i. times i xs * f i) n
+sum_by_total f [] n h = sym (all_none n)
   where
     all_none : (n : ℕ) → total (λ i. 0 * f i) n ≡ 0
     all_none zero = refl
     all_none (suc n) = omega (arith, all_none n, zero-mul (f n))
-over_total f (x ∷ xs) n h =
+sum_by_total f (x ∷ xs) n h =
     let small : x < n = go (cases_lt x n) in
-    let rest = over_total f xs n (λ i l. omega (arith, h i l)) in
-    sym (total_same (λ i. (is i x + times i xs) * f i) (λ i. is i x * f i + times i xs * f i) n (λ i l. add-mul (is i x) (times i xs) (f i)) ∙ total_add (λ i. is i x * f i) (λ i. times i xs * f i) n ∙ ap₂ (λ a b. a + b) (total_is f x n small) (sym rest))
+    let rest = sum_by_total f xs n (λ i l. omega (arith, h i l)) in
+    sum_by-cons f x xs ∙ sym (total_same (λ i. (is i x + times i xs) * f i) (λ i. is i x * f i + times i xs * f i) n (λ i l. add-mul (is i x) (times i xs) (f i)) ∙ total_add (λ i. is i x * f i) (λ i. times i xs * f i) n ∙ ap₂ (λ a b. a + b) (total_is f x n small) (sym rest))
   where
     go : (x < n) ⊎ (n ≤ x) → x < n
     go (inl l) = l
     go (inr l) = absurd (omega (arith, h x l, is_same x))
 
 pub length_total : (xs : List ℕ) (n : ℕ) → ((i : ℕ) → n ≤ i → times i xs ≡ 0) → length xs ≡ total (λ i. times i xs) n
-length_total xs n h = sym (over_one xs) ∙ over_total (λ _. 1) xs n h ∙ total_same (λ i. times i xs * 1) (λ i. times i xs) n (λ i l. mul-one (times i xs))
+length_total xs n h = sym (sum_of_ones xs) ∙ sum_by_total (λ _. 1) xs n h ∙ total_same (λ i. times i xs * 1) (λ i. times i xs) n (λ i l. mul-one (times i xs))
 
 -- So a list of numbers below n, none of them twice, has at most n.
 pub few : (xs : List ℕ) (n : ℕ) → ((i : ℕ) → n ≤ i → times i xs ≡ 0) → ((i : ℕ) → times i xs ≤ 1) → length xs ≤ n
@@ -100,5 +92,5 @@ few xs n h once =
     omega (arith, length_total xs n h, total_at_most (λ i. times i xs) (λ _. 1) n (λ i l. once i), total_one n)
 
 -- Where each number below n stands in it once, a sum over it is a sum over these.
-pub over_each : (f : ℕ → ℕ) (xs : List ℕ) (n : ℕ) → ((i : ℕ) → n ≤ i → times i xs ≡ 0) → ((i : ℕ) → i < n → times i xs ≡ 1) → over f xs ≡ total f n
-over_each f xs n h once = over_total f xs n h ∙ total_same (λ i. times i xs * f i) f n (λ i l. ap (λ k. k * f i) (once i l) ∙ one-mul (f i))
+pub sum_by_each : (f : ℕ → ℕ) (xs : List ℕ) (n : ℕ) → ((i : ℕ) → n ≤ i → times i xs ≡ 0) → ((i : ℕ) → i < n → times i xs ≡ 1) → sum_by f xs ≡ total f n
+sum_by_each f xs n h once = sum_by_total f xs n h ∙ total_same (λ i. times i xs * f i) f n (λ i l. ap (λ k. k * f i) (once i l) ∙ one-mul (f i))

@@ -15,20 +15,19 @@ use selfid::mark::Mark;
 use selfid::node::NODE_LIMIT;
 use stack::Stack;
 
-// Puts the rows of the children on the stack. A row that was reached before is refused: no tree has it.
+// Puts the rows of the children on the stack, which has room for just as many as there are rows. A row that was reached before is refused: no tree has it.
 fn reach_children(
     ports: &[RowPort],
-    rows: usize,
     reached: &mut [bool; NODE_LIMIT],
     stack: &mut Stack<'_, u8>,
 ) -> Result<(), DescriptionStop>
-    requires children_are_rows { ChildrenBelow rows ports.now }
-    requires rows_fit { (rows ≤ node_limit) × (rows ≤ room stack.old) }
-    requires each_waits_once { Waiting rows (held stack.old) reached.old }
+    requires children_are_rows { ChildrenBelow (room stack.old) ports.now }
+    requires few_rows { room stack.old ≤ node_limit }
+    requires each_waits_once { Waiting (room stack.old) (held stack.old) reached.old }
     ensures keeps_the_room { room stack.new ≡ room stack.old }
     ensures children_wait { OnOk result (held stack.new ≡ onto (children ports.now) (held stack.old)) }
     ensures children_are_reached { OnOk result ((i : ℕ) → hit reached.new i ≡ hit reached.old i + times i (children ports.now)) }
-    ensures refuses_a_row_reached_twice { IfErr result (λ e. (e ≡ NoTree) × ((i : ℕ) × (i < rows) × (2 ≤ hit reached.old i + times i (children ports.now)))) }
+    ensures refuses_a_row_reached_twice { IfErr result (λ e. (e ≡ NoTree) × ((i : ℕ) × (i < room stack.old) × (2 ≤ hit reached.old i + times i (children ports.now)))) }
 {
     for port in ports {
         if !port.has(Mark::Down) {
@@ -77,11 +76,11 @@ impl Walk<'_, u8> {
         let rows = self.rows;
         let mut reached = [false; NODE_LIMIT];
         reached[0] = true;
-        let mut waiting = Stack::new(self.stack);
+        let mut waiting = Stack::new(&mut self.stack[..rows.len()]);
         push(&mut waiting, 0);
         while let Some(next) = waiting.pop() {
             let ports = &rows[next as usize].ports;
-            reach_children(ports, rows.len(), &mut reached, &mut waiting)?;
+            reach_children(ports, &mut reached, &mut waiting)?;
         }
         Ok(reached)
     }

@@ -7,4 +7,4 @@ abbrev pub invariant-loop-port : goal.invariant-loop-port
 invariant-loop-port l =
     (length l.reached ≡ 63)
     × (room l.stack ≡ room l.initial.stack)
-    × HalfReached l.rows (drop l.port-index l.ports) l.ports (held l.stack) l.reached (held l.initial.stack) l.initial.reached
+    × HalfReached (room l.initial.stack) (drop l.port-index l.ports) l.ports (held l.stack) l.reached (held l.initial.stack) l.initial.reached

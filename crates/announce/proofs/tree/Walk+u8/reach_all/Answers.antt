@@ -1,6 +1,7 @@
-use Rattle.std.proofs.Common.{◌∷◌, length, refl, ap, ◌∙◌, arith}
+use Rattle.std.proofs.Common.{◌≡◌, ◌∷◌, length, refl, ap, ◌∙◌, arith}
+use Rattle.std.proofs.lemmas.List.{length-take-le}
 use Rattle.std.proofs.lemmas.Result.{err_from_is_err_and}
-use Rattle.stack.specs.Held.{held}
+use Rattle.stack.specs.Held.{held, room}
 use Rattle.announce.proofs.Told.{no_row}
 use Rattle.announce.proofs.Waits.{begun, next_small, taken_off, its_children, put_on, falls, no_cabling, ended}
 use Rattle.announce.proofs.tree.Walk+u8.reach_all.Goals as goal
@@ -8,7 +9,8 @@ use Rattle.announce.proofs.tree.Walk+u8.reach_all.Goals as goal
 pub loop-next-init : goal.loop-next-init
 loop-next-init c =
     let e = c.push.ensures.puts_it_on_top ∙ ap (λ l. 0 ∷ l) c.new-waiting.ensures.is_empty in
-    (refl, refl, rw e (begun c.args.self.now.rows.now c.args.self.now.well_formed.some))
+    let fits : room c.push.new.stack ≡ length c.args.self.now.rows.now = c.push.ensures.keeps_the_room ∙ c.new-waiting.ensures.has_the_room_of_the_row ∙ length-take-le _ _ c.args.self.now.has_room in
+    (refl, fits, rw e (begun c.args.self.now.rows.now c.args.self.now.well_formed.some))
 
 pub bounds-rows-next : goal.bounds-rows-next
 bounds-rows-next c =
@@ -21,11 +23,13 @@ reach_children-requires c =
     let order = c.args.self.now.well_formed in
     let reached = c.loop-next.reached in
     let w = rw c.in-Some.ensures.takes_the_top_if_any at c.loop-next.invariant.2 in
-    record {
+    let fits : room c.pop.new.self ≡ length rows = c.in-Some.ensures.keeps_the_room ∙ c.loop-next.invariant.1 in
+    rw fits
+    (record {
       children_are_rows = its_children rows c.in-Some.next no_row (held c.pop.new.self) reached reached order w;
-      rows_fit = (order.few, omega (arith, c.args.self.now.has_room, c.in-Some.ensures.keeps_the_room, c.loop-next.invariant.1, c.push.ensures.keeps_the_room, c.new-waiting.ensures.has_the_room_of_the_row));
+      few_rows = order.few;
       each_waits_once = taken_off rows c.in-Some.next no_row (held c.pop.new.self) reached reached order w;
-    }
+    })
 
 pub loop-next-smaller : goal.loop-next-smaller
 loop-next-smaller c =
@@ -49,11 +53,12 @@ returns-in_err-reach_children c =
     let order = c.args.self.now.well_formed in
     let w = rw c.in-Some.ensures.takes_the_top_if_any at c.loop-next.invariant.2 in
     let p = err_from_is_err_and c.from_residual.result c.from_residual.ensures.1 in
+    let fits : room c.pop.new.self ≡ length rows = c.in-Some.ensures.keeps_the_room ∙ c.loop-next.invariant.1 in
     let (stop, (k, l, two)) = c.in_err-reach_children.ensures.refuses_a_row_reached_twice in
     rw p.1
     (record {
       each_is_reached_once = tt;
-      refuses_what_describes_no_cabling = (p.2 ∙ stop, no_cabling rows c.in-Some.next no_row (held c.pop.new.self) c.loop-next.reached c.loop-next.reached order w k l two);
+      refuses_what_describes_no_cabling = (p.2 ∙ stop, no_cabling rows c.in-Some.next no_row (held c.pop.new.self) c.loop-next.reached c.loop-next.reached order w k (rw fits at l) two);
     })
 
 pub returns : goal.returns

@@ -4,7 +4,7 @@ use Rattle.announce.proofs.Waits.{Walking, unreached}
 use Rattle.announce.proofs.tree.Walk+u8.reach_all.Given as goal
 
 abbrev pub invariant-loop-next : goal.invariant-loop-next
-invariant-loop-next l = (length l.reached ≡ 63) × (room l.waiting ≡ room l.initial.waiting) × Walking l.rows (held l.waiting) l.reached
+invariant-loop-next l = (length l.reached ≡ 63) × (room l.waiting ≡ length l.rows) × Walking l.rows (held l.waiting) l.reached
 
 abbrev pub decreases-loop-next : goal.decreases-loop-next
 decreases-loop-next l = unreached (length l.rows) l.reached + length (held l.waiting)

@@ -1,13 +1,10 @@
 use Rattle.std.proofs.Common.{◌≡◌, ◌-◌, ◌*◌, length}
-use Rattle.selfid.specs.Cabling.{Cabling}
-use Rattle.announce.specs.Description.{Describes}
 use Rattle.stack.specs.Held.{held, room}
-use Rattle.announce.proofs.Opened.{Writing}
+use Rattle.announce.proofs.Opened.{Walked}
 use Rattle.announce.proofs.writing.Walk+Frame.write.Given as goal
 
 abbrev pub invariant-loop-frame : goal.invariant-loop-frame
-invariant-loop-frame l =
-    (room l.open ≡ room l.initial.open) × ((c : Cabling) → Describes l.rows c → Writing l.rows c (held l.open) l.number l.initial.out l.out)
+invariant-loop-frame l = (room l.open ≡ room l.initial.open) × Walked l.rows (held l.open) l.number l.initial.out l.out
 
 -- every node that is open is still to be written, and opening one or writing one takes a turn
 abbrev pub decreases-loop-frame : goal.decreases-loop-frame
