@@ -1,6 +1,5 @@
 -- A node joins the loose ends that it takes: the far ends are set, port by port, and the rows are those of the cabling that then waits.
 pub mod Leads
-pub mod Joins
 pub mod Hanging
 pub mod Ending
 -- Marks are counted, and a packet's parts are judged as the tests say.

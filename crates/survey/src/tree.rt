@@ -14,6 +14,7 @@ pub(crate) mod verdict;
 pub(crate) const TOLD_LIMIT: usize = ZERO_PORTS + EXTENSION_PORTS * EXTENSION_LIMIT;
 
 // The rows of the finished nodes, and the loose ends, the oldest first. A node under way has told `turn` packets, with these fields and marks.
+// (Before its packet zero there is no node under way, and nobody reads the fields: an Option would have to be unwrapped where a node ends.)
 #[derive(Drop)]
 pub struct Tree {
     pub(crate) rows: ArrayVec<Row, NODE_LIMIT>,

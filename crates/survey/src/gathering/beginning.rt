@@ -8,7 +8,7 @@ use crate::tree::Tree;
 use arrayvec::ArrayVec;
 
 impl Gathering {
-    // A new survey: a gathering with nothing offered.
+    // A new survey: a gathering with nothing offered. (Both resets promise the same, each to its own caller.)
     pub fn new() -> Gathering
         ensures nothing_is_offered { gathered result ≡ nothing_offered }
     {
