@@ -135,6 +135,7 @@ fn decode_extension(word: u32) -> Result<Packet, PacketFlaw>
     }
 }
 
+// (Named, and not `From` and `TryFrom`: the second promise of each, the way round, would have no name there.)
 impl Packet {
     // The packet's word.
     pub fn encode(self) -> u32

@@ -22,6 +22,7 @@ const THREE_NODES: [u32; 7] = [
     0x7D80_7721,
 ];
 
+// (A word of this program's, where Display has `true` and `false`.)
 fn yes_or_no(flag: bool) -> &'static str {
     if flag { "yes" } else { "no" }
 }
@@ -69,35 +70,45 @@ fn print_question_stop(rt: &HostRuntime, stop: QuestionStop) -> io::Result<()> {
     println!(rt; "{number}")
 }
 
-// Asks for a node and prints its fields, or the number of the refusal.
-fn print_node(rt: &HostRuntime, record: &Record, number: usize) -> io::Result<()> {
-    match record.node(number) {
-        Ok(fields) => print_fields(rt, number, fields),
-        Err(stop) => print_question_stop(rt, stop),
-    }
+// A node of a record that is asked for by its number.
+#[derive(Clone, Copy)]
+struct NodeAsked<'a> {
+    record: &'a Record,
+    number: usize,
 }
 
-// Asks for a port and prints it, or the number of the refusal.
-fn print_port_of(rt: &HostRuntime, record: &Record, number: usize, port: usize) -> io::Result<()> {
-    match record.port(number, port) {
-        Ok(found) => print_port(rt, port, found),
-        Err(stop) => print_question_stop(rt, stop),
+impl NodeAsked<'_> {
+    // Prints its fields, or the number of the refusal.
+    fn print(&self, rt: &HostRuntime) -> io::Result<()> {
+        match self.record.node(self.number) {
+            Ok(fields) => print_fields(rt, self.number, fields),
+            Err(stop) => print_question_stop(rt, stop),
+        }
     }
-}
 
-// Asks for each port by its number.
-fn print_ports(rt: &HostRuntime, record: &Record, number: usize) -> io::Result<()> {
-    for port in 0..PORT_LIMIT {
-        print_port_of(rt, record, number, port)?;
+    // Prints one of its ports, or the number of the refusal.
+    fn print_port(&self, rt: &HostRuntime, port: usize) -> io::Result<()> {
+        match self.record.port(self.number, port) {
+            Ok(found) => print_port(rt, port, found),
+            Err(stop) => print_question_stop(rt, stop),
+        }
     }
-    Ok(())
+
+    // Asks for each port by its number.
+    fn print_ports(&self, rt: &HostRuntime) -> io::Result<()> {
+        for port in 0..PORT_LIMIT {
+            self.print_port(rt, port)?;
+        }
+        Ok(())
+    }
 }
 
 // Asks for each node by its number.
 fn print_nodes(rt: &HostRuntime, record: &Record) -> io::Result<()> {
     for number in 0..record.node_count() {
-        print_node(rt, record, number)?;
-        print_ports(rt, record, number)?;
+        let node = NodeAsked { record, number };
+        node.print(rt)?;
+        node.print_ports(rt)?;
     }
     Ok(())
 }
@@ -123,16 +134,28 @@ fn print_filled(rt: &HostRuntime, mut gathering: Gathering, words: &[u32]) -> io
 
 // Questions that have no answer: of the record of a bus, and of a void one.
 fn print_refusals(rt: &HostRuntime, bus: &Record, void: &Record) -> io::Result<()> {
+    let absent = NodeAsked {
+        record: bus,
+        number: 3,
+    };
+    let first = NodeAsked {
+        record: bus,
+        number: 0,
+    };
+    let of_void = NodeAsked {
+        record: void,
+        number: 0,
+    };
     print!(rt; "node 3: ")?;
-    print_node(rt, bus, 3)?;
+    absent.print(rt)?;
     print!(rt; "port 16 of node 0: ")?;
-    print_port_of(rt, bus, 0, 16)?;
+    first.print_port(rt, 16)?;
     print!(rt; "port 0 of node 3: ")?;
-    print_port_of(rt, bus, 3, 0)?;
+    absent.print_port(rt, 0)?;
     print!(rt; "node 0 of a void record: ")?;
-    print_node(rt, void, 0)?;
+    of_void.print(rt)?;
     print!(rt; "port 0 of node 0 of a void record: ")?;
-    print_port_of(rt, void, 0, 0)?;
+    of_void.print_port(rt, 0)?;
     let nodes = void.node_count();
     println!(rt; "nodes of a void record: {nodes}")
 }

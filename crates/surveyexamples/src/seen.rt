@@ -16,6 +16,7 @@ pub struct Stop {
 // A bus of so many nodes, or a stop.
 pub type Seen = Result<usize, Stop>;
 
+// (One `From` for each of the two: what they share is a number and a place, and a trait that says so would have no other use here.)
 impl From<QuadletStop> for Stop {
     ghost from_gives = { λ turned_away seen. seen ≡ seen_stop turned_away };
 
