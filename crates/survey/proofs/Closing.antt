@@ -19,9 +19,9 @@ use Rattle.survey.specs.Waiting.{rows_of, ends_of, each_can_hang}
 use Rattle.survey.specs.Joining.{rows_joined, ports_joined, up_place}
 use Rattle.survey.specs.Judging.{finished, loose}
 use Rattle.survey.specs.Hearing.{node_marks, first_taken, taken_ends, told_marks, ended}
-use Rattle.survey.specs.Tallies.{cablings_of}
+use Rattle.survey.specs.Tallies.{cablings_of, Tally}
 use Rattle.survey.proofs.Ending.{joined_node, old, ends_taken, ends_parted, old_long, rows_then, ends_then, nodes_then, hang_then, rows_long, ends_long}
-use Rattle.survey.proofs.Tallying.{Tally, MayCome, fields_sent, ups_then, downs_then, all_marks_then, ups_of_ports, downs_of_ports, ends_were, can_hang, nodes_waiting, loose_waiting}
+use Rattle.survey.proofs.Tallying.{MayCome, fields_sent, ups_then, downs_then, all_marks_then, ups_of_ports, downs_of_ports, ends_were, can_hang, nodes_waiting, loose_waiting}
 use Rattle.survey.proofs.Growing.{fields_now}
 
 -- As many, whatever they are.

@@ -11,9 +11,10 @@ use Rattle.judging.specs.Rebuilding.{fields_told}
 use Rattle.survey.specs.declared.tree.Tree.{Tree}
 use Rattle.survey.specs.Judging.{marks_before}
 use Rattle.survey.specs.Hearing.{told_marks}
+use Rattle.survey.specs.Tallies.{Tally}
 use Rattle.survey.proofs.Verdicts.{Layout, layout}
 use Rattle.survey.proofs.Ending.{newest_last}
-use Rattle.survey.proofs.Tallying.{Tally, MayCome, fields_sent, marks_now, long_now}
+use Rattle.survey.proofs.Tallying.{MayCome, fields_sent, marks_now, long_now}
 
 -- The oldest packet of a node stays the oldest.
 oldest : (q : ℕ) (x : List ℕ) → 1 ≤ length x → fields_told (q ∷ x) ≡ fields_told x

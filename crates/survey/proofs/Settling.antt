@@ -35,12 +35,15 @@ pub fresh_facts : (t : Tree) → Fresh t → Facts [] t
 fresh_facts t (rows, ends, r, k, marks) =
     record {
       begins = nothing_begins;
-      counts_tally = (ap length rows, ap length ends, k, r, λ _. k);
-      turn_tallies = (omega (arith, k), rw k refl);
-      marks_tally = marks;
-      fields_tally = λ h. absurd (omega (arith, h, k));
-      rows_tally = rows;
-      ends_tally = λ _. (ends, refl);
+      tallies =
+          record {
+            counts = (ap length rows, ap length ends, k, r, λ _. k);
+            turn = (omega (arith, k), rw k refl);
+            marks = marks;
+            fields = λ h. absurd (omega (arith, h, k));
+            rows = rows;
+            ends = λ _. (ends, refl);
+          };
     }
 
 -- The rows of a whole announcement are those of its cabling.
@@ -50,7 +53,7 @@ bus_shown g c a =
       cabling = c;
       announces = a;
       only = λ d b. announcement_tells_the_cabling d c b.proper a.proper (b.exactly ∙ sym a.exactly);
-      shows = record { nodes = ap bus (g.rows_tally ∙ ap rows_of (rebuilt c (quadlets_of g) a)); count = nodes_long c 0 None };
+      shows = record { nodes = ap bus (g.tallies.rows ∙ ap rows_of (rebuilt c (quadlets_of g) a)); count = nodes_long c 0 None };
     }
 
 -- What a gathering settles to: with nothing that spoiled it, a bus if the announcement is whole.

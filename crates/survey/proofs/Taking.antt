@@ -12,8 +12,9 @@ use Rattle.judging.proofs.Quadlets.{packet_more, inverse_more}
 use Rattle.judging.proofs.Recognition.{node_may_come}
 use Rattle.survey.specs.declared.tree.Tree.{Tree}
 use Rattle.survey.specs.Hearing.{heard_parts, heard}
+use Rattle.survey.specs.Tallies.{Tally}
 use Rattle.survey.proofs.Verdicts.{layout}
-use Rattle.survey.proofs.Tallying.{Tally, MayCome, fields_sent, heard_by_word}
+use Rattle.survey.proofs.Tallying.{MayCome, fields_sent, heard_by_word}
 use Rattle.survey.proofs.Growing.{goes_on}
 use Rattle.survey.proofs.Closing.{ends_so}
 
