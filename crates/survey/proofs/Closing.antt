@@ -1,5 +1,5 @@
 -- The tree tallies with the packets taken when a node has ended.
-use Rattle.std.proofs.Common.{◌≡◌, ℕ, suc, ◌≤◌, Bool, true, false, cond, eqb, List, [], ◌∷◌, ◌++◌, length, take, drop, replicate, sym, refl, ap, ◌∙◌, ap₂, arith, length-append}
+use Rattle.std.proofs.Common.{◌≡◌, ℕ, ◌≤◌, Bool, true, false, cond, eqb, List, [], ◌∷◌, ◌++◌, length, take, drop, replicate, sym, refl, ap, ◌∙◌, ap₂, arith, length-append}
 use Rattle.std.proofs.lemmas.List.{length-drop, length-take-le, length-replicate, take_at, drop_at}
 use Rattle.std.proofs.lemmas.Bool.{eqb-false}
 use Rattle.selfid.specs.declared.mark.Mark.{Mark}
@@ -82,11 +82,7 @@ module _ {ps : List ℕ} {t : Tree} {q : ℕ} {p : Packet} (tally : Tally ps t) 
 
   -- With an up mark the node is the newest loose end.
   one_up : no_ups ≡ false → ups ms ≡ 1
-  one_up r = omega (arith, eqb_false_lt (ups then.marks.items) r, ups_same, ups_then tally next, next.few_ups)
-    where
-      eqb_false_lt : (n : ℕ) → eqb n 0 ≡ false → 1 ≤ n
-      eqb_false_lt ℕ.zero e = absurd (eqb-false 0 0 e refl)
-      eqb_false_lt (suc n) e = omega arith
+  one_up r = omega (arith, eqb-false (ups then.marks.items) 0 r, ups_same, ups_then tally next, next.few_ups)
 
   ends_now : no_ups ≡ false → (ended then).ends.items ≡ ends_of (joined_node x ms cs)
   ends_now r =

@@ -16,7 +16,6 @@ use Rattle.survey.specs.Tallies.{Fresh}
 use Rattle.survey.specs.Views.{Shown, bus, void, gathered}
 use Rattle.survey.specs.Settling.{SettledBus, SettledAfter, SettleCall}
 use Rattle.survey.proofs.Hanging.{nodes_long}
-use Rattle.survey.proofs.Taking.{apart}
 use Rattle.survey.proofs.Gatherings.{quadlets_of, Facts}
 
 -- Nothing begins every announcement, that of a lone node too.
@@ -65,4 +64,4 @@ module _ (g : Gathering) (unspoiled : g.spoil ≡ None) where
   settles_whole w = let (c, a) = whole_announced (quadlets_of g) g.begins w in unless_spoiled (inl (bus_shown g c a))
 
   pub settles_early : whole (quadlets_of g) ≡ false → SettleCall (gathered g) (void (NotWhole (length (quadlets_of g))))
-  settles_early w = unless_spoiled (inr (record { none_announces = λ c a. apart (whole (quadlets_of g)) (announced_whole c (quadlets_of g) a) w; begins = g.begins; cause = refl }))
+  settles_early w = unless_spoiled (inr (record { none_announces = λ c a. (let n = announced_whole c (quadlets_of g) a in cc); begins = g.begins; cause = refl }))
