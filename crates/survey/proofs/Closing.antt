@@ -1,5 +1,5 @@
 -- The tree tallies with the packets taken when a node has ended.
-use Rattle.std.proofs.Common.{◌≡◌, ℕ, suc, ◌≤◌, Bool, true, false, cond, eqb, List, [], ◌∷◌, ◌++◌, length, take, drop, replicate, sym, refl, ap, ◌∙◌, ap₂, arith, length-append}
+use Rattle.std.proofs.Common.{◌≡◌, ℕ, ◌≤◌, Bool, true, false, cond, eqb, List, [], ◌∷◌, ◌++◌, length, take, drop, replicate, sym, refl, ap, ◌∙◌, ap₂, arith, length-append}
 use Rattle.std.proofs.lemmas.List.{length-drop, length-take-le, length-replicate, take_at, drop_at}
 use Rattle.std.proofs.lemmas.Bool.{eqb-false}
 use Rattle.selfid.specs.declared.mark.Mark.{Mark}
@@ -19,9 +19,9 @@ use Rattle.survey.specs.Waiting.{rows_of, ends_of, each_can_hang}
 use Rattle.survey.specs.Joining.{rows_joined, ports_joined, up_place}
 use Rattle.survey.specs.Judging.{finished, loose}
 use Rattle.survey.specs.Hearing.{node_marks, first_taken, taken_ends, told_marks, ended}
-use Rattle.survey.specs.Tallies.{cablings_of}
+use Rattle.survey.specs.Tallies.{cablings_of, Tally}
 use Rattle.survey.proofs.Ending.{joined_node, old, ends_taken, ends_parted, old_long, rows_then, ends_then, nodes_then, hang_then, rows_long, ends_long}
-use Rattle.survey.proofs.Tallying.{Tally, MayCome, fields_sent, ups_then, downs_then, all_marks_then, ups_of_ports, downs_of_ports, ends_were, can_hang, nodes_waiting, loose_waiting}
+use Rattle.survey.proofs.Tallying.{MayCome, fields_sent, ups_then, downs_then, all_marks_then, ups_of_ports, downs_of_ports, ends_were, can_hang, nodes_waiting, loose_waiting}
 use Rattle.survey.proofs.Growing.{fields_now}
 
 -- As many, whatever they are.
@@ -82,11 +82,7 @@ module _ {ps : List ℕ} {t : Tree} {q : ℕ} {p : Packet} (tally : Tally ps t) 
 
   -- With an up mark the node is the newest loose end.
   one_up : no_ups ≡ false → ups ms ≡ 1
-  one_up r = omega (arith, eqb_false_lt (ups then.marks.items) r, ups_same, ups_then tally next, next.few_ups)
-    where
-      eqb_false_lt : (n : ℕ) → eqb n 0 ≡ false → 1 ≤ n
-      eqb_false_lt ℕ.zero e = absurd (eqb-false 0 0 e refl)
-      eqb_false_lt (suc n) e = omega arith
+  one_up r = omega (arith, eqb-false (ups then.marks.items) 0 r, ups_same, ups_then tally next, next.few_ups)
 
   ends_now : no_ups ≡ false → (ended then).ends.items ≡ ends_of (joined_node x ms cs)
   ends_now r =

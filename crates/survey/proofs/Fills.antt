@@ -1,10 +1,9 @@
 -- How far a fill has come, draw by draw.
-use Rattle.std.proofs.Common.{◌≡◌, ℕ, ◌+◌, ◌≤◌, List, [], ◌∷◌, ◌++◌, length, drop, Some, None, Ok, Err, Option, Result, sym, refl, ap, ◌∙◌, subst, append_assoc, arith, length-append}
+use Rattle.std.proofs.Common.{◌≡◌, ℕ, ◌+◌, ◌≤◌, List, [], ◌∷◌, ◌++◌, length, drop, Some, None, Ok, Err, Result, sym, refl, ap, ◌∙◌, subst, append_assoc, arith, length-append}
 use Rattle.std.specs.Prelude.{⊤}
 use Rattle.std.proofs.lemmas.List.{append-nil}
 use Rattle.source.specs.declared.SourceStop.{SourceStop}
 use Rattle.source.specs.Sources.{drawn_from}
-use Rattle.stops.specs.declared.Spoil.{Spoil}
 use Rattle.stops.specs.declared.QuadletStop.{QuadletStop}
 use Rattle.stops.specs.declared.QuadletStop.TheVariants.{Flawed, Spoiled}
 use Rattle.stops.specs.declared.FillStop.TheVariants.{Survey}
@@ -23,7 +22,7 @@ Ending = Result ⊤ SourceStop
 first_waits : (w : List ℕ) (e : Ending) (q : ℕ) → Ok (Some q) ≡ drawn_from w e → w ≡ q ∷ drop 1 w
 first_waits [] (Ok u) q d = cc
 first_waits [] (Err s) q d = cc
-first_waits (x ∷ w) e q d = ap {B = List ℕ} (λ y. y ∷ w) (let k : q ≡ x = cc in sym k)
+first_waits (x ∷ w) e q d = cc
 
 one_more_passes : (qs front : List ℕ) (q : ℕ) → EachPasses qs front → Verdict (qs ++ front) q None → EachPasses qs (front ++ (q ∷ []))
 one_more_passes qs [] q e v = (subst (λ (l : List ℕ). Verdict l q None) (append-nil qs) v, tt)
@@ -85,7 +84,4 @@ module _ {w : List ℕ} {e : Ending} {g : Gathered} {v : List ℕ} {d : Ending} 
             };
       }
   far_turned_away q v' d' (Spoiled y) k p r s t =
-      absurd (never t.by (sym (ap (λ (x : Gathered). x.spoil) far.taken.then) ∙ t.spoiled))
-    where
-      never : (x : Spoil) → ◌≡◌ {A = Option Spoil} None (Some x) → ⊥
-      never x f = let z : ◌≡◌ {A = ℕ} 0 1 = cc in omega arith
+      let f = sym (ap (λ (x : Gathered). x.spoil) far.taken.then) ∙ t.spoiled in cc

@@ -13,8 +13,8 @@ use Rattle.survey.specs.declared.gathering.Gathering.{Gathering}
 use Rattle.survey.specs.declared.tree.Tree.{Tree}
 use Rattle.survey.specs.Judging.{judged}
 use Rattle.survey.specs.Hearing.{heard, CanHear}
-use Rattle.survey.specs.Tallies.{CountsTally, TurnTallies, MarksTally, FieldsTally, RowsTally, EndsTally}
-use Rattle.survey.proofs.Tallying.{Tally, MayCome, can_hear}
+use Rattle.survey.specs.Tallies.{Tally}
+use Rattle.survey.proofs.Tallying.{MayCome, can_hear}
 use Rattle.survey.proofs.Taking.{hears, may_come, packet_taken, inverse_taken, newest_packet}
 use Rattle.survey.proofs.Judgement.{verdict_packet}
 use Rattle.survey.proofs.Verdicts.{packet_tested}
@@ -24,12 +24,9 @@ abbrev pub quadlets_of : Gathering → List ℕ
 quadlets_of g = g.quadlets.items
 
 module _ (g : Gathering) where
-  pub tally_of : Tally (packets_taken (quadlets_of g)) g.tree
-  tally_of = record { counts = g.counts_tally; turn = g.turn_tallies; marks = g.marks_tally; fields = g.fields_tally; rows = g.rows_tally; ends = g.ends_tally }
-
   tested_of : (q : ℕ) → whole (quadlets_of g) ≡ false → inverse_due (quadlets_of g) ≡ false → Tested packet_tests (quadlets_of g) q (judged g.tree q)
   tested_of q w d =
-      packet_tested (quadlets_of g) q g.tree g.begins w d g.counts_tally.0 g.counts_tally.1 g.counts_tally.2 (ap ups g.marks_tally) (ap downs g.marks_tally)
+      packet_tested (quadlets_of g) q g.tree g.begins w d g.tallies.counts.0 g.tallies.counts.1 g.tallies.counts.2 (ap ups g.tallies.marks) (ap downs g.tallies.marks)
 
   -- The verdict on a quadlet that is due as a packet, and the quadlet that is due as an inverse.
   pub verdict_of : (q : ℕ) (v : Option Flaw) → false ≡ whole (quadlets_of g) → false ≡ inverse_due (quadlets_of g) → v ≡ judged g.tree q → Verdict (quadlets_of g) q v
@@ -40,29 +37,7 @@ module _ (g : Gathering) where
 
 -- What must hold of a gathering that has taken qs, with the tree t.
 abbrev pub Facts : List ℕ → Tree → Type 0
-Facts qs t =
-    let ps = packets_taken qs in
-    record {
-      begins : Begins qs;
-      counts_tally : CountsTally ps t;
-      turn_tallies : TurnTallies ps t;
-      marks_tally : MarksTally ps t;
-      fields_tally : FieldsTally ps t;
-      rows_tally : RowsTally ps t;
-      ends_tally : EndsTally ps t;
-    }
-
-pub facts_from : (qs : List ℕ) (t : Tree) → Begins qs → Tally (packets_taken qs) t → Facts qs t
-facts_from qs t b k =
-    record {
-      begins = b;
-      counts_tally = k.counts;
-      turn_tallies = k.turn;
-      marks_tally = k.marks;
-      fields_tally = k.fields;
-      rows_tally = k.rows;
-      ends_tally = k.ends;
-    }
+Facts qs t = record { begins : Begins qs; tallies : Tally (packets_taken qs) t }
 
 -- The quadlet that is taken.
 module _ (g : Gathering) (q : ℕ) (passes : Verdict (quadlets_of g) q None) where
@@ -73,16 +48,16 @@ module _ (g : Gathering) (q : ℕ) (passes : Verdict (quadlets_of g) q None) whe
   room_for_it = omega (arith, quadlets_in_range (quadlets_of g ++ (q ∷ [])) more, length-append (quadlets_of g) (q ∷ []))
 
   facts_then : (t : Tree) → Tally (packets_taken (quadlets_of g ++ (q ∷ []))) t → Facts (quadlets_of g ++ (q ∷ [])) t
-  facts_then t k = facts_from (quadlets_of g ++ (q ∷ [])) t more k
+  facts_then t k = record { begins = more; tallies = k }
 
   come : (p : Packet) → whole (quadlets_of g) ≡ false → inverse_due (quadlets_of g) ≡ false → packet_in q ≡ Ok p → MayCome (packets_taken (quadlets_of g)) g.tree q p
-  come p w d read = may_come (quadlets_of g) g.tree q p (tally_of g) g.begins w d read (rw d at passes.first_that_applies.1)
+  come p w d read = may_come (quadlets_of g) g.tree q p g.tallies g.begins w d read (rw d at passes.first_that_applies.1)
 
   pub hearable : (p : Packet) → whole (quadlets_of g) ≡ false → inverse_due (quadlets_of g) ≡ false → packet_in q ≡ Ok p → CanHear g.tree p
-  hearable p w d read = can_hear (tally_of g) (come p w d read)
+  hearable p w d read = can_hear g.tallies (come p w d read)
 
   pub packet_facts : (p : Packet) → whole (quadlets_of g) ≡ false → inverse_due (quadlets_of g) ≡ false → packet_in q ≡ Ok p → Facts (quadlets_of g ++ (q ∷ [])) (heard g.tree p)
-  packet_facts p w d read = facts_then (heard g.tree p) (subst (λ ps. Tally ps (heard g.tree p)) (sym (packet_taken (quadlets_of g) q d)) (hears (tally_of g) (come p w d read)))
+  packet_facts p w d read = facts_then (heard g.tree p) (subst (λ ps. Tally ps (heard g.tree p)) (sym (packet_taken (quadlets_of g) q d)) (hears g.tallies (come p w d read)))
 
   pub inverse_facts : inverse_due (quadlets_of g) ≡ true → Facts (quadlets_of g ++ (q ∷ [])) g.tree
-  inverse_facts d = facts_then g.tree (subst (λ ps. Tally ps g.tree) (sym (inverse_taken (quadlets_of g) q d)) (tally_of g))
+  inverse_facts d = facts_then g.tree (subst (λ ps. Tally ps g.tree) (sym (inverse_taken (quadlets_of g) q d)) g.tallies)

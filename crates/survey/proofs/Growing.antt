@@ -1,5 +1,5 @@
 -- The tree under way has heard a packet, after which its node goes on.
-use Rattle.std.proofs.Common.{◌≡◌, ℕ, suc, ◌+◌, ◌<◌, ◌≤◌, true, ◌⊎◌, List, [], ◌∷◌, reverse, length, get_or, sym, ap, ◌∙◌, inl, inr, arith}
+use Rattle.std.proofs.Common.{◌≡◌, ℕ, suc, ◌+◌, ◌≤◌, true, List, [], ◌∷◌, reverse, length, get_or, sym, ap, ◌∙◌, inl, inr, arith}
 use Rattle.std.proofs.lemmas.List.{length-reverse, get_or_append_left, nil_from_length}
 use Rattle.std.proofs.lemmas.Bool.{cases_lt}
 use Rattle.selfid.specs.declared.packet.Packet.{Packet}
@@ -11,9 +11,10 @@ use Rattle.judging.specs.Rebuilding.{fields_told}
 use Rattle.survey.specs.declared.tree.Tree.{Tree}
 use Rattle.survey.specs.Judging.{marks_before}
 use Rattle.survey.specs.Hearing.{told_marks}
+use Rattle.survey.specs.Tallies.{Tally}
 use Rattle.survey.proofs.Verdicts.{Layout, layout}
 use Rattle.survey.proofs.Ending.{newest_last}
-use Rattle.survey.proofs.Tallying.{Tally, MayCome, fields_sent, marks_now, long_now}
+use Rattle.survey.proofs.Tallying.{MayCome, fields_sent, marks_now, long_now}
 
 -- The oldest packet of a node stays the oldest.
 oldest : (q : ℕ) (x : List ℕ) → 1 ≤ length x → fields_told (q ∷ x) ≡ fields_told x
@@ -42,16 +43,12 @@ module _ {ps : List ℕ} {t : Tree} {q : ℕ} {p : Packet} (tally : Tally ps t) 
   next_turn = omega arith
 
   turn_in_range : t.turn + 1 ≤ extension_limit
-  turn_in_range = go (cases_lt t.turn extension_limit)
-    where
-      go : (t.turn < extension_limit) ⊎ (extension_limit ≤ t.turn) → t.turn + 1 ≤ extension_limit
-      go (inl h) = omega (arith, h)
-      go (inr h) = let f = next.last (omega (arith, h, tally.turn.0)) in absurd (let z : ◌≡◌ {A = ℕ} 0 1 = cc in omega arith)
+  turn_in_range = elim (cases_lt t.turn extension_limit) [ inl h ↦ omega arith | inr h ↦ let f = next.last (omega (arith, h, tally.turn.0)) in cc ]
 
   pub goes_on : Tally (q ∷ ps) then
   goes_on =
       record {
-        counts = rw more (tally.counts.0, tally.counts.1, omega (arith, tally.counts.2), tally.counts.3, λ r. absurd (let z : ◌≡◌ {A = ℕ} 0 1 = (let e = next.unrooted in cc) in omega arith));
+        counts = rw more (tally.counts.0, tally.counts.1, omega (arith, tally.counts.2), tally.counts.3, λ r. (let e = next.unrooted in cc));
         turn = (turn_in_range, rw more (long_now tally next ∙ ap marks_before (sym next_turn)));
         marks = rw more (marks_now tally next);
         fields = λ _. rw more (fields_now tally next);

@@ -8,7 +8,6 @@ use Rattle.judging.specs.Standing.{packets_taken, inverse_due, whole}
 use Rattle.judging.specs.Completion.{enough_with}
 use Rattle.judging.specs.Tests.{Applies, packet_tests, tests_due, Tested, Verdict}
 use Rattle.judging.proofs.Recognition.{inverse_follows, packet_follows, not_enough, turned_away, whole_announced, announced_whole}
-use Rattle.survey.proofs.Taking.{apart}
 
 module _ (qs : List ℕ) (q : ℕ) where
   turned : (f : Flaw) → Tested (tests_due qs) qs q (Some f) → Verdict qs q (Some f)
@@ -18,7 +17,7 @@ module _ (qs : List ℕ) (q : ℕ) where
   verdict_whole b w = turned AlreadyWhole (inl (refl, whole_announced qs b w))
 
   unfinished : whole qs ≡ false → Applies AlreadyWhole qs q → ⊥
-  unfinished w (c, a) = apart (whole qs) (announced_whole c qs a) w
+  unfinished w (c, a) = let n = announced_whole c qs a in cc
 
   pub verdict_inverse : Begins qs → whole qs ≡ false → inverse_due qs ≡ true → q ≡ inverse_of (get_or (packets_taken qs) 0 0) → Verdict qs q None
   verdict_inverse b w d e = record { first_that_applies = (unfinished w, rw d ((λ f. f e), tt)); still_begins = inverse_follows qs q b d e }

@@ -16,7 +16,6 @@ use Rattle.survey.specs.Tallies.{Fresh}
 use Rattle.survey.specs.Views.{Shown, bus, void, gathered}
 use Rattle.survey.specs.Settling.{SettledBus, SettledAfter, SettleCall}
 use Rattle.survey.proofs.Hanging.{nodes_long}
-use Rattle.survey.proofs.Taking.{apart}
 use Rattle.survey.proofs.Gatherings.{quadlets_of, Facts}
 
 -- Nothing begins every announcement, that of a lone node too.
@@ -35,12 +34,15 @@ pub fresh_facts : (t : Tree) → Fresh t → Facts [] t
 fresh_facts t (rows, ends, r, k, marks) =
     record {
       begins = nothing_begins;
-      counts_tally = (ap length rows, ap length ends, k, r, λ _. k);
-      turn_tallies = (omega (arith, k), rw k refl);
-      marks_tally = marks;
-      fields_tally = λ h. absurd (omega (arith, h, k));
-      rows_tally = rows;
-      ends_tally = λ _. (ends, refl);
+      tallies =
+          record {
+            counts = (ap length rows, ap length ends, k, r, λ _. k);
+            turn = (omega (arith, k), rw k refl);
+            marks = marks;
+            fields = λ h. absurd (omega (arith, h, k));
+            rows = rows;
+            ends = λ _. (ends, refl);
+          };
     }
 
 -- The rows of a whole announcement are those of its cabling.
@@ -50,7 +52,7 @@ bus_shown g c a =
       cabling = c;
       announces = a;
       only = λ d b. announcement_tells_the_cabling d c b.proper a.proper (b.exactly ∙ sym a.exactly);
-      shows = record { nodes = ap bus (g.rows_tally ∙ ap rows_of (rebuilt c (quadlets_of g) a)); count = nodes_long c 0 None };
+      shows = record { nodes = ap bus (g.tallies.rows ∙ ap rows_of (rebuilt c (quadlets_of g) a)); count = nodes_long c 0 None };
     }
 
 -- What a gathering settles to: with nothing that spoiled it, a bus if the announcement is whole.
@@ -62,4 +64,4 @@ module _ (g : Gathering) (unspoiled : g.spoil ≡ None) where
   settles_whole w = let (c, a) = whole_announced (quadlets_of g) g.begins w in unless_spoiled (inl (bus_shown g c a))
 
   pub settles_early : whole (quadlets_of g) ≡ false → SettleCall (gathered g) (void (NotWhole (length (quadlets_of g))))
-  settles_early w = unless_spoiled (inr (record { none_announces = λ c a. apart (whole (quadlets_of g)) (announced_whole c (quadlets_of g) a) w; begins = g.begins; cause = refl }))
+  settles_early w = unless_spoiled (inr (record { none_announces = λ c a. (let n = announced_whole c (quadlets_of g) a in cc); begins = g.begins; cause = refl }))

@@ -1,19 +1,19 @@
 -- A quadlet is taken: the tests let it pass, and the tree tallies with it.
-use Rattle.std.proofs.Common.{◌≡◌, ℕ, ◌+◌, ◌-◌, ◌%◌, ◌<◌, ◌≤◌, Bool, true, false, eqb, List, [], ◌∷◌, ◌++◌, reverse, length, get_or, take, None, Ok, sym, refl, ap, ◌∙◌, subst, inl, inr, arith}
+use Rattle.std.proofs.Common.{◌≡◌, ℕ, ◌+◌, ◌-◌, ◌%◌, ◌≤◌, Bool, true, false, eqb, List, [], ◌∷◌, ◌++◌, reverse, length, get_or, take, None, Ok, sym, refl, ap, ◌∙◌, subst, inl, inr, arith}
 use Rattle.std.proofs.lemmas.List.{take_more, take_all, length-take-le, reverse-append}
-use Rattle.std.proofs.lemmas.Bool.{eqb-true, eqb-false, eq-eqb, ne_eqb, cases_lt}
+use Rattle.std.proofs.lemmas.Bool.{eqb-true, eqb-false, eq-eqb, ne_eqb}
 use Rattle.selfid.specs.declared.packet.Packet.{Packet}
-use Rattle.selfid.specs.Marks.{ups, downs}
 use Rattle.selfid.specs.Reading.{packet_in}
 use Rattle.judging.specs.Beginnings.{Begins}
-use Rattle.judging.specs.Standing.{has_more, turn_of, marks_in, packets_taken, without_inverses, inverse_due, under_way, loose_count, node_so_far, whole}
+use Rattle.judging.specs.Standing.{has_more, turn_of, marks_in, packets_taken, without_inverses, inverse_due, under_way, whole}
 use Rattle.judging.specs.Tests.{packet_tests, Tested}
 use Rattle.judging.proofs.Quadlets.{packet_more, inverse_more}
 use Rattle.judging.proofs.Recognition.{node_may_come}
 use Rattle.survey.specs.declared.tree.Tree.{Tree}
 use Rattle.survey.specs.Hearing.{heard_parts, heard}
+use Rattle.survey.specs.Tallies.{Tally}
 use Rattle.survey.proofs.Verdicts.{layout}
-use Rattle.survey.proofs.Tallying.{Tally, MayCome, fields_sent, heard_by_word}
+use Rattle.survey.proofs.Tallying.{MayCome, fields_sent, heard_by_word}
 use Rattle.survey.proofs.Growing.{goes_on}
 use Rattle.survey.proofs.Closing.{ends_so}
 
@@ -25,9 +25,6 @@ hears {ps} {t} {q} {p} tally next = subst (Tally (q ∷ ps)) (sym (heard_by_word
     go true e = rw e (goes_on tally next e)
     go false e = rw e (ends_so tally next e)
 
-pub apart : (b : Bool) → b ≡ true → b ≡ false → ⊥
-apart b e f = let z : ◌≡◌ {A = ℕ} 0 1 = cc in omega arith
-
 -- No root has ended while the announcement is not whole.
 pub no_root_yet : (qs : List ℕ) (t : Tree) → Tally (packets_taken qs) t → whole qs ≡ false → inverse_due qs ≡ false → t.rooted ≡ false
 no_root_yet qs t tally w d = go t.rooted refl
@@ -37,7 +34,7 @@ no_root_yet qs t tally w d = go t.rooted refl
     go true e =
         let root = sym tally.counts.3 ∙ e in
         let none : eqb (length (under_way (packets_taken qs))) 0 ≡ true = eq-eqb _ 0 (sym tally.counts.2 ∙ tally.counts.4 e) in
-        absurd (apart (whole qs) (rw (d, none, root)) w)
+        let n : whole qs ≡ true = rw (d, none, root) in cc
 
 -- What the tests of a packet, none of which applies, say of it.
 pub may_come : (qs : List ℕ) (t : Tree) (q : ℕ) (p : Packet) → Tally (packets_taken qs) t → Begins qs → whole qs ≡ false → inverse_due qs ≡ false → packet_in q ≡ Ok p → Tested packet_tests qs q None → MayCome (packets_taken qs) t q p
@@ -47,8 +44,8 @@ may_come qs t q p tally begins w d read (n3, (n4, (n5, (n6, (n7, (n8, (n9, rest)
       read = read;
       in_turn = same (turn_of q) (length (under_way (packets_taken qs))) (λ f. n6 (inl f)) ∙ sym tally.counts.2;
       last = λ e. off (has_more q) (λ m. n6 (inr (same (turn_of q) (length (under_way (packets_taken qs))) (λ f. n6 (inl f)) ∙ sym tally.counts.2 ∙ e, m)));
-      few_ups = at_most (ups (node_so_far (packets_taken qs) q)) 1 n8;
-      few_downs = at_most (downs (node_so_far (packets_taken qs) q)) (loose_count (packets_taken qs)) n9;
+      few_ups = omega (arith, n8);
+      few_downs = omega (arith, n9);
       room = omega (arith, tally.counts.0, node_may_come qs begins w d);
     }
   where
@@ -58,9 +55,6 @@ may_come qs t q p tally begins w d read (n3, (n4, (n5, (n6, (n7, (n8, (n9, rest)
         go : (c : Bool) → eqb a b ≡ c → a ≡ b
         go true e = eqb-true a b e
         go false e = absurd (f (eqb-false a b e))
-
-    at_most : (a b : ℕ) → (b < a → ⊥) → a ≤ b
-    at_most a b f = elim (cases_lt b a) [ inl h ↦ absurd (f h) | inr h ↦ h ]
 
     off : (b : Bool) → (b ≡ true → ⊥) → b ≡ false
     off true f = absurd (f refl)

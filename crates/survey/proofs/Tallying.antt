@@ -19,19 +19,10 @@ use Rattle.survey.specs.Waiting.{ends_of, each_can_hang}
 use Rattle.survey.specs.Joining.{ends_within}
 use Rattle.survey.specs.Judging.{finished, loose, marks_before}
 use Rattle.survey.specs.Hearing.{told_limit, node_marks, told_marks, heard_parts, heard, CanEnd, CanTell, CanHear}
-use Rattle.survey.specs.Tallies.{cablings_of, CountsTally, TurnTallies, MarksTally, FieldsTally, RowsTally, EndsTally}
+use Rattle.survey.specs.Tallies.{cablings_of, Tally}
 use Rattle.survey.proofs.Verdicts.{Layout, layout}
 use Rattle.survey.proofs.Ending.{rows_long as rows_as_nodes, ends_long as ends_as_cablings, ends_are_ports}
 use Rattle.survey.proofs.Telling.{padded, padded_twice, ups_padded, downs_padded, take_padded}
-
--- All that tallies.
-pub record Tally (ps : List ℕ) (t : Tree) : Type 0 where
-  pub counts : CountsTally ps t
-  pub turn : TurnTallies ps t
-  pub marks : MarksTally ps t
-  pub fields : FieldsTally ps t
-  pub rows : RowsTally ps t
-  pub ends : EndsTally ps t
 
 -- The packet p in the word q may come next.
 pub record MayCome (ps : List ℕ) (t : Tree) (q : ℕ) (p : Packet) : Type 0 where

@@ -25,32 +25,21 @@ abbrev pub Layout : ℕ → Packet → Type 0
 Layout q (Zero x) = (is_extension q ≡ false) × (x ≡ zero_in q)
 Layout q (Further x) = (is_extension q ≡ true) × (x ≡ extension_in q)
 
-packet_or : Packet → Result Packet PacketFlaw → Packet
-packet_or d (Ok p) = p
-packet_or d (Err f) = d
-
-same_packet : (p r : Packet) → ◌≡◌ {A = Result Packet PacketFlaw} (Ok p) (Ok r) → p ≡ r
-unfolding packet_or
-same_packet p r e = ap (packet_or p) e
-
-never_refused : (f : PacketFlaw) (p : Packet) → ◌≡◌ {A = Result Packet PacketFlaw} (Err f) (Ok p) → ⊥
-never_refused f p e = let z : ◌≡◌ {A = ℕ} 0 1 = cc in omega arith
-
 pub layout : (q : ℕ) (p : Packet) → packet_in q ≡ Ok p → Layout q p
 layout q p e = go (eqb (q / 2 ^ 30) 2) (is_extension q) refl refl
   where
     further : (b : Bool) → is_extension q ≡ true → reserved_set q ≡ b → read_extension q ≡ Ok p → Layout q p
-    further true k r f = absurd (never_refused HasReservedBit p (rw r at f))
-    further false k r f = subst (Layout q) (same_packet (Further (extension_in q)) p (rw r at f)) (k, refl)
+    further true k r f = let h = rw r at f in cc
+    further false k r f = let h = rw r at f in let e : Further (extension_in q) ≡ p = cc in subst (Layout q) e (k, refl)
 
     zeroth : (b : Bool) → is_extension q ≡ false → (not (eqb (bits 13 12 q) 0) || eqb (bits 15 14 q) 3) ≡ b → read_zero q ≡ Ok p → Layout q p
-    zeroth true k r f = absurd (never_refused HasReservedBit p (rw r at f))
-    zeroth false k r f = subst (Layout q) (same_packet (Zero (zero_in q)) p (rw r at f)) (k, refl)
+    zeroth true k r f = let h = rw r at f in cc
+    zeroth false k r f = let h = rw r at f in let e : Zero (zero_in q) ≡ p = cc in subst (Layout q) e (k, refl)
 
     go : (a b : Bool) → eqb (q / 2 ^ 30) 2 ≡ a → is_extension q ≡ b → Layout q p
     go true true a k = further (reserved_set q) k refl (rw (a, k) at e)
     go true false a k = zeroth (not (eqb (bits 13 12 q) 0) || eqb (bits 15 14 q) 3) k refl (rw (a, k) at e)
-    go false b a k = absurd (never_refused NoSelfId p (rw a at e))
+    go false b a k = let h = rw a at e in cc
 
 pub judged_by_parts : (t : Tree) (q : ℕ) (p : Packet) → Layout q p → judged_packet t p ≡ judged_parts t (bits 29 24 q) (turn_of q) (marks_in q) (has_more q)
 judged_by_parts t q (Zero x) (k, e) = rw (k, e)
@@ -60,15 +49,12 @@ judged_by_parts t q (Further x) (k, e) = rw (k, e)
 record Says (ts : List Flaw) (qs : List ℕ) (q : ℕ) (v : Option Flaw) : Type 0 where
   tested : Tested ts qs q v
 
-apart : (b : Bool) → b ≡ true → b ≡ false → ⊥
-apart b e f = let z : ◌≡◌ {A = ℕ} 0 1 = cc in omega arith
-
 then_test : {qs : List ℕ} {q : ℕ} {ts : List Flaw} {v : Option Flaw} (f : Flaw) (b : Bool) → Decides b (Applies f qs q) → ((Applies f qs q → ⊥) → Says ts qs q v) → Says (f ∷ ts) qs q (cond b (Some f) v)
 then_test {qs} {q} {ts} {v} f true d more = record { tested = inl (refl, d.0 refl) }
 then_test {qs} {q} {ts} {v} f false d more = record { tested = go v (more off).tested }
   where
     off : Applies f qs q → ⊥
-    off a = apart false (d.1 a) refl
+    off a = let e = d.1 a in cc
 
     go : (v : Option Flaw) → Tested ts qs q v → Tested (f ∷ ts) qs q v
     go None k = (off, k)
@@ -123,7 +109,7 @@ module _ (qs : List ℕ) (q : ℕ) (t : Tree) (begins : Begins qs) (unfinished :
   completion_test others = rw enough_now (go (enough_with (packets_taken qs) q) refl)
     where
       go : (b : Bool) → enough_with (packets_taken qs) q ≡ b → Decides (not (enough_with (packets_taken qs) q)) (Begins (qs ++ (q ∷ [])) → ⊥)
-      go true e = (λ h. absurd (apart _ e (not-true _ h)), λ h. absurd (h (packet_follows qs q begins unfinished none_due others e)))
+      go true e = (λ h. (let n = not-true _ h in cc), λ h. absurd (h (packet_follows qs q begins unfinished none_due others e)))
       go false e = (λ _. not_enough qs q none_due others e, λ _. rw e)
 
   parts_tested : (Applies NotSelfId qs q → ⊥) → (Applies ReservedBit qs q → ⊥) → Says (WrongNumber ∷ OutOfTurn ∷ EmptyExtension ∷ SecondUp ∷ TooManyDown ∷ LooseEndLeft ∷ NoCabling ∷ []) qs q (judged_parts t (bits 29 24 q) (turn_of q) (marks_in q) (has_more q))
@@ -142,8 +128,8 @@ module _ (qs : List ℕ) (q : ℕ) (t : Tree) (begins : Begins qs) (unfinished :
     where
       go : (r : Result Packet PacketFlaw) → packet_in q ≡ r → Tested packet_tests qs q (judged_read t r)
       go (Err NoSelfId) e = inl (refl, e)
-      go (Err HasReservedBit) e = inr (λ h. (let z : ◌≡◌ {A = ℕ} 0 1 = cc in omega arith), inl (refl, e))
-      go (Ok p) e = behind (judged_packet t p) (λ h. never_refused NoSelfId p (sym h ∙ e)) (λ h. never_refused HasReservedBit p (sym h ∙ e)) (rw (judged_by_parts t q p (layout q p e)) (parts_tested (λ h. never_refused NoSelfId p (sym h ∙ e)) (λ h. never_refused HasReservedBit p (sym h ∙ e))).tested)
+      go (Err HasReservedBit) e = inr (λ h. (cc), inl (refl, e))
+      go (Ok p) e = behind (judged_packet t p) (λ h. (cc)) (λ h. (cc)) (rw (judged_by_parts t q p (layout q p e)) (parts_tested (λ h. (cc)) (λ h. (cc))).tested)
         where
           behind : (v : Option Flaw) → (Applies NotSelfId qs q → ⊥) → (Applies ReservedBit qs q → ⊥) → Tested (WrongNumber ∷ OutOfTurn ∷ EmptyExtension ∷ SecondUp ∷ TooManyDown ∷ LooseEndLeft ∷ NoCabling ∷ []) qs q v → Tested packet_tests qs q v
           behind None a b k = (a, (b, k))

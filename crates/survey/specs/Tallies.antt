@@ -39,6 +39,15 @@ RowsTally ps t = t.rows.items ≡ rows_of (cablings_of ps)
 abbrev pub EndsTally : List ℕ → Tree → Type 0
 EndsTally ps t = t.rooted ≡ false → (t.ends.items ≡ ends_of (cablings_of ps)) × (each_can_hang (cablings_of ps) ≡ true)
 
+-- All of this.
+pub record Tally (ps : List ℕ) (t : Tree) : Type 0 where
+  pub counts : CountsTally ps t
+  pub turn : TurnTallies ps t
+  pub marks : MarksTally ps t
+  pub fields : FieldsTally ps t
+  pub rows : RowsTally ps t
+  pub ends : EndsTally ps t
+
 -- A tree that has heard nothing.
 abbrev pub Fresh : Tree → Type 0
 Fresh t = (t.rows.items ≡ []) × (t.ends.items ≡ []) × (t.rooted ≡ false) × (t.turn ≡ 0) × (t.marks.items ≡ [])

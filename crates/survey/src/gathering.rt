@@ -2,7 +2,7 @@
 
 ghost use Rattle.judging.specs.Beginnings.{Begins};
 ghost use Rattle.judging.specs.Standing.{packets_taken};
-ghost use Rattle.survey.specs.Tallies.{CountsTally, TurnTallies, MarksTally, FieldsTally, RowsTally, EndsTally};
+ghost use Rattle.survey.specs.Tallies.{Tally};
 
 use crate::tree::Tree;
 use arrayvec::ArrayVec;
@@ -25,10 +25,5 @@ pub struct Gathering {
     pub(crate) tree: Tree,
     pub(crate) spoil: Option<Spoil>,
     ghost begins: { Begins quadlets.items },
-    ghost counts_tally: { CountsTally (packets_taken quadlets.items) tree },
-    ghost turn_tallies: { TurnTallies (packets_taken quadlets.items) tree },
-    ghost marks_tally: { MarksTally (packets_taken quadlets.items) tree },
-    ghost fields_tally: { FieldsTally (packets_taken quadlets.items) tree },
-    ghost rows_tally: { RowsTally (packets_taken quadlets.items) tree },
-    ghost ends_tally: { EndsTally (packets_taken quadlets.items) tree },
+    ghost tallies: { Tally (packets_taken quadlets.items) tree },
 }
