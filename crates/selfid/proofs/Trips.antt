@@ -1,6 +1,5 @@
 -- Packets to words and back.
-use Rattle.std.proofs.Common.{◌≡◌, ℕ, zero, suc, ◌+◌, ◌*◌, ◌/◌, ◌^◌, ◌<◌, Bool, true, false, cond, not, ◌&&◌, ◌||◌, eqb, List, [], ◌∷◌, length, get_or, drop, IfOk, Ok, Err, sym, refl, ap, ◌∙◌, ap₂, arith}
-use Rattle.std.proofs.lemmas.List.{ext_get_or}
+use Rattle.std.proofs.Common.{◌≡◌, ℕ, ◌+◌, ◌*◌, ◌/◌, ◌^◌, ◌<◌, Bool, true, false, cond, not, ◌&&◌, ◌||◌, eqb, List, [], ◌∷◌, length, get_or, drop, IfOk, Ok, Err, sym, refl, ap, ◌∙◌, ap₂, arith}
 use Rattle.std.proofs.lemmas.Bool.{cond_both, eq-eqb, ne_eqb, eqb-true, eqb-false, or_parts, not-false}
 use Rattle.std.proofs.lemmas.Bool.Decides.{nat_tests}
 use Rattle.selfid.specs.declared.mark.Mark.{Mark}
@@ -12,17 +11,11 @@ use Rattle.selfid.specs.declared.packet.PacketFlaw.TheVariants.{ReservedBit}
 use Rattle.selfid.specs.Marks.{mark_code, present}
 use Rattle.selfid.specs.Packets.{bit}
 use Rattle.selfid.specs.Reading.{word_of, bits, mark_in, speed_in, zero_in, extension_in, fields_in, read_zero, read_extension, reserved_set, packet_in, marks_existing_ports}
+use Rattle.selfid.proofs.Codes.{three, eight}
 use Rattle.selfid.proofs.Same.{same_fields, same_zero, same_extension}
 use Rattle.selfid.proofs.Digits.{mark_back, speed_back, bit_back, speed_small, mark_again, speed_again, bit_again, ZeroDigits, zero_digits, ExtensionDigits, extension_digits}
 
 -- A list of as many marks, by its elements.
-three : (ms : List Mark) → length ms ≡ 3 → get_or ms 0 Absent ∷ get_or ms 1 Absent ∷ get_or ms 2 Absent ∷ [] ≡ ms
-three [] h = absurd (omega arith)
-three (a ∷ []) h = absurd (omega arith)
-three (a ∷ b ∷ []) h = absurd (omega arith)
-three (a ∷ b ∷ c ∷ []) h = refl
-three (a ∷ b ∷ c ∷ d ∷ ms) h = absurd (omega arith)
-
 -- The flag and the mark read at some bits.
 pub flag_at : {n : ℕ} (b : Bool) → n ≡ bit b → eqb n 1 ≡ b
 flag_at b e = ap (λ k. eqb k 1) e ∙ bit_back b
@@ -53,20 +46,6 @@ zero_trip p len =
     let clear : eqb (bits 13 12 q) 0 ≡ true = eq-eqb (bits 13 12 q) 0 d.reserved in
     let speed : eqb (bits 15 14 q) 3 ≡ false = ne_eqb (bits 15 14 q) 3 (λ e. omega (arith, d.speed, e)) in
     simp (top, kind, clear, speed) (ap (λ r. Ok (Zero r)) (zero_back p len q d))
-
-eight : (ms : List Mark) → length ms ≡ 8 → get_or ms 0 Absent ∷ get_or ms 1 Absent ∷ get_or ms 2 Absent ∷ get_or ms 3 Absent ∷ get_or ms 4 Absent ∷ get_or ms 5 Absent ∷ get_or ms 6 Absent ∷ get_or ms 7 Absent ∷ [] ≡ ms
-eight ms h = ext_get_or Absent _ ms (sym h) λ i l. at_each i l
-  where
-    at_each : (i : ℕ) → i < 8 → get_or (get_or ms 0 Absent ∷ get_or ms 1 Absent ∷ get_or ms 2 Absent ∷ get_or ms 3 Absent ∷ get_or ms 4 Absent ∷ get_or ms 5 Absent ∷ get_or ms 6 Absent ∷ get_or ms 7 Absent ∷ []) i Absent ≡ get_or ms i Absent
-    at_each zero l = refl
-    at_each (suc zero) l = refl
-    at_each (suc (suc zero)) l = refl
-    at_each (suc (suc (suc zero))) l = refl
-    at_each (suc (suc (suc (suc zero)))) l = refl
-    at_each (suc (suc (suc (suc (suc zero))))) l = refl
-    at_each (suc (suc (suc (suc (suc (suc zero)))))) l = refl
-    at_each (suc (suc (suc (suc (suc (suc (suc zero))))))) l = refl
-    at_each (suc (suc (suc (suc (suc (suc (suc (suc i)))))))) l = absurd (omega arith)
 
 extension_back : (p : Extension) → length p.marks ≡ 8 → (q : ℕ) → ExtensionDigits q p.number p.turn p.marks p.more → extension_in q ≡ p
 extension_back p len q d =

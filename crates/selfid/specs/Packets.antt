@@ -1,5 +1,5 @@
 -- The self-ID packets of a node as words of 32 bits: a sum of fields, each times the weight of its lowest bit.
-use Rattle.std.specs.Prelude.{ℕ, ◌+◌, ◌-◌, ◌*◌, ◌^◌, Bool, true, false, List, [], ◌∷◌, slice_index_or}
+use Rattle.std.specs.Prelude.{ℕ, ◌+◌, ◌-◌, ◌*◌, ◌^◌, Bool, true, false, List, [], ◌∷◌, length, slice_index_or}
 use Rattle.selfid.specs.declared.mark.Mark.{Mark}
 use Rattle.selfid.specs.declared.mark.Mark.TheVariants.{Absent}
 use Rattle.selfid.specs.declared.node.Fields.{Fields}
@@ -14,10 +14,10 @@ bit false = 0
 abbrev pub code_at : List Mark → ℕ → ℕ
 code_at ms i = mark_code (slice_index_or ms i Absent)
 
--- A number with the codes of marks behind it, two bits for each.
-abbrev pub packed_onto : ℕ → List Mark → ℕ
-packed_onto n [] = n
-packed_onto n (m ∷ ms) = packed_onto (n * 4 + mark_code m) ms
+-- The codes of marks, two bits for each, the last in the lowest.
+abbrev pub packed_codes : List Mark → ℕ
+packed_codes [] = 0
+packed_codes (m ∷ ms) = mark_code m * 2 ^ (2 * length ms) + packed_codes ms
 
 -- Packet zero of node n, below 64, with the fields x, where ms are the marks of the ports from port 0 on: it has the first three.
 abbrev pub zero_word : (n : ℕ) → Fields → List Mark → (more : Bool) → ℕ

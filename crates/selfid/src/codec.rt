@@ -2,7 +2,7 @@
 
 ghost use Rattle.std.specs.Prelude.{◌≡◌, ◌+◌, ◌*◌, ◌/◌, ◌%◌, ◌^◌, ◌<◌, ◌≤◌, ◌==◌, length, IfOk, if◌then◌else◌, Ok, Err};
 ghost use Rattle.selfid.specs.declared.packet.PacketFlaw.TheVariants.{ReservedBit};
-ghost use Rattle.selfid.specs.Packets.{packed_onto, zero_word, extension_word, inverse_of};
+ghost use Rattle.selfid.specs.Packets.{packed_codes, zero_word, extension_word, inverse_of};
 ghost use Rattle.selfid.specs.Reading.{word_of, marks_from, speed_in, fields_in, extension_in, reserved_set, read_zero, read_extension, packet_in, marks_existing_ports};
 
 use crate::mark::Mark;
@@ -13,7 +13,7 @@ use crate::speed::Speed;
 // The codes of the marks, two bits each, the last mark lowest.
 fn packed(marks: &[Mark]) -> u32
     requires few_marks { length marks.now ≤ 8 }
-    ensures has_two_bits_for_each_mark { result ≡ packed_onto 0 marks.now }
+    ensures has_two_bits_for_each_mark { result ≡ packed_codes marks.now }
     ensures fits { result < 2 ^ (2 * length marks.now) }
 {
     let mut word = 0;
@@ -23,6 +23,7 @@ fn packed(marks: &[Mark]) -> u32
     word
 }
 
+#[tactic(auto, using(crate::proofs::Codes::three_packed))]
 fn encode_zero(packet: PacketZero) -> u32
     ensures is_the_word { result ≡ zero_word packet.number packet.fields packet.marks packet.more }
 {
@@ -38,6 +39,7 @@ fn encode_zero(packet: PacketZero) -> u32
     node + numbers + flags + (packed(&packet.marks) << 2)
 }
 
+#[tactic(auto, using(crate::proofs::Codes::eight_packed))]
 fn encode_extension(packet: Extension) -> u32
     ensures is_the_word { result ≡ extension_word packet.number packet.turn packet.marks packet.more }
 {

@@ -27,12 +27,13 @@ pub struct Row {
 
 // A row that no node has filled yet: it has no port. (Fields have no default of their own, since their numbers are kept in range.)
 impl Default for Row {
-    ghost use Rattle.std.specs.Prelude.{◌≡◌, replicate, None};
+    ghost use Rattle.std.specs.Prelude.{◌≡◌, false, replicate, None};
     ghost use Rattle.selfid.specs.declared.mark.Mark.TheVariants.{Absent};
+    ghost use Rattle.selfid.specs.declared.speed.Speed.TheVariants.{S100};
     ghost use Rattle.selfid.specs.Nodes.{port_limit};
     ghost use Rattle.survey.specs.Nodes.{port_with};
 
-    ghost is_default = { λ row. row.ports ≡ replicate port_limit (port_with Absent None) };
+    ghost is_default = { λ row. (row.ports ≡ replicate port_limit (port_with Absent None)) × (row.fields.link ≡ false) × (row.fields.contender ≡ false) × (row.fields.initiator ≡ false) × (row.fields.gap ≡ 0) × (row.fields.speed ≡ S100) × (row.fields.power ≡ 0) };
 
     fn default() -> Row {
         Row {
