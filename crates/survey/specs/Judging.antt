@@ -13,10 +13,11 @@ use Rattle.selfid.specs.Reading.{packet_in}
 use Rattle.judging.specs.Completion.{enough_within, enough_after}
 use Rattle.judging.specs.Stops.{flaw_of_packet}
 
--- How many nodes are finished, and how many loose ends there are.
+-- How many nodes are finished.
 abbrev pub finished : Tree → ℕ
 finished t = length t.rows.items
 
+-- How many loose ends there are.
 abbrev pub loose : Tree → ℕ
 loose t = length t.ends.items
 

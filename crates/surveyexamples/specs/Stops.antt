@@ -5,9 +5,11 @@ use Rattle.stops.specs.declared.Cause.{Cause}
 use Rattle.stops.specs.Numbers.{quadlet_number, quadlet_place, cause_number, cause_place}
 use Rattle.surveyexamples.specs.declared.seen.Stop.{Stop}
 
+-- A stop with this number and place.
 abbrev pub stop_at : (number place : ℕ) → Stop
 stop_at z p = record { number = z; place = p }
 
+-- The stop of a quadlet that is turned away, and the cause of a void record.
 abbrev pub seen_stop : QuadletStop → Stop
 seen_stop s = stop_at (quadlet_number s) (quadlet_place s)
 
@@ -18,6 +20,7 @@ seen_cause k = stop_at (cause_number k) (cause_place k)
 abbrev pub Seen : Type 0
 Seen = Result ℕ Stop
 
+-- One of each, by its numbers.
 abbrev pub bus_of : ℕ → Seen
 bus_of nodes = Ok nodes
 
