@@ -8,7 +8,6 @@ use Rattle.announce.specs.declared.described.RowPort.{RowPort}
 use Rattle.announce.specs.Description.{is_down, times}
 use Rattle.announce.specs.Reach.{children, onto, hit, child_below, ChildrenBelow, Waiting}
 use Rattle.announce.proofs.Times.{is, is_same, is_other, few}
-use Rattle.announce.proofs.Forests.{children_other, children_down}
 
 -- With these ports left, what will wait and be reached in the end is what it is for all ports from the start.
 pub record HalfReached (n : ℕ) (left ports : List RowPort) (held : List ℕ) (reached : List Bool) (held₀ : List ℕ) (reached₀ : List Bool) : Type 0 where
@@ -40,18 +39,7 @@ hit_small reached i = go (get_or reached i false)
     go false = omega arith
 
 module _ (n : ℕ) (p : RowPort) (left ports : List RowPort) (held : List ℕ) (reached : List Bool) (held₀ : List ℕ) (reached₀ : List Bool) (h : HalfReached n (p ∷ left) ports held reached held₀ reached₀) where
-  pub pass : is_down p ≡ false → HalfReached n left ports held reached held₀ reached₀
-  pass other =
-      let e = children_other p left other in
-      record { waiting = h.waiting; stack = rw e at h.stack; hits = λ i. rw e at (h.hits i) }
-
   module _ (down : is_down p ≡ true) where
-    -- it was reached before
-    pub twice : hit reached p.child ≡ 1 → 2 ≤ hit reached₀ p.child + times p.child (children ports)
-    twice z =
-        let e = rw (children_down p left down) at (h.hits p.child) in
-        omega (arith, e, z, is_same p.child)
-
     -- it was not: there is room for it, and it waits
     module _ (small : p.child < n) (new : hit reached p.child ≡ 0) (len : n ≤ length reached) where
       waits : Waiting n (p.child ∷ held) (set reached p.child true)
@@ -66,12 +54,3 @@ module _ (n : ℕ) (p : RowPort) (left ports : List RowPort) (held : List ℕ) (
           few (p.child ∷ held) n
           (λ i l. omega (arith, waits.once i, waits.rows_only i l))
           (λ i. omega (arith, waits.once i, hit_small (set reached p.child true) i))
-
-      pub take_on : HalfReached n left ports (p.child ∷ held) (set reached p.child true) held₀ reached₀
-      take_on =
-          let e = children_down p left down in
-          record {
-            waiting = waits;
-            stack = rw e at h.stack;
-            hits = λ i. let a = rw e at (h.hits i) in omega (arith, a, hit_more reached p.child i (omega arith) new);
-          }

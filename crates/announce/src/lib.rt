@@ -28,6 +28,7 @@ use crate::writer::Writer;
 // A description that is refused leaves the words as they are. The two stack rows need an element for each row:
 // `reach` keeps rows that wait while the tree is tested, `walk` where the writing stands. What they hold then is left over.
 // All of this is lent by the caller, since there is no heap.
+#[tactic(auto, using(crate::proofs::Trees::describe_one_cabling, selfid::proofs::Tells::announcement_tells_the_cabling))]
 pub fn announce(
     rows: &[Row],
     reach: &mut [u8],

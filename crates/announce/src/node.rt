@@ -53,7 +53,7 @@ pub(crate) fn count_packets(marks: &[Mark; PORT_LIMIT]) -> usize
 }
 
 // A node with its number, which writes itself.
-#[derive(Clone, Copy)]
+#[derive(Clone, Copy, Debug, PartialEq, Eq)]
 pub(crate) struct Numbered {
     pub(crate) number: u8,
     pub(crate) node: Node,

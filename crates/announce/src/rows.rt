@@ -19,7 +19,7 @@ use selfid::speed::Speed;
 fn port_in_range(port: &RowPort, rows: usize) -> bool
     ensures tells_if_it_is { result ≡ port_in_range rows port.now }
 {
-    Mark::try_from(port.mark).is_ok() && (!port.has(Mark::Down) || (port.child as usize) < rows)
+    Mark::try_from(port.mark).is_ok() && (!port.has(Mark::Down) || usize::from(port.child) < rows)
 }
 
 fn ports_in_range(ports: &[RowPort], rows: usize) -> bool

@@ -16,6 +16,7 @@ use selfid::node::NODE_LIMIT;
 use stack::Stack;
 
 // Puts the rows of the children on the stack, which has room for just as many as there are rows. A row that was reached before is refused: no tree has it.
+// (A loop, and no chain: it marks a row and puts it on the stack, and ends at the first that was marked before.)
 fn reach_children(
     ports: &[RowPort],
     reached: &mut [bool; NODE_LIMIT],
@@ -54,8 +55,7 @@ fn count_ups(ports: &[RowPort]) -> usize
 fn has_its_ups(ports: &[RowPort], i: usize) -> bool
     ensures tells_if_it_has { result ≡ (ups_of ports.now == ups_due i) }
 {
-    let due = if i == 0 { 0 } else { 1 };
-    count_ups(ports) == due
+    count_ups(ports) == usize::from(i > 0)
 }
 
 // Is each row reached, and has each the up marks that are due?
@@ -63,7 +63,7 @@ fn all_placed(rows: &[Row], reached: &[bool; NODE_LIMIT]) -> bool
     requires few_rows { length rows.now ≤ node_limit }
     ensures tells_if_all_are { MatchBool result ((i : ℕ) → i < length rows.now → Placed rows.now reached.now i) ((i : ℕ) × (i < length rows.now) × (Placed rows.now reached.now i → ⊥)) }
 {
-    let mut told = rows.iter().zip(reached.iter()).enumerate();
+    let mut told = rows.iter().zip(reached).enumerate();
     told.all(|(i, (row, hit))| *hit && has_its_ups(&row.ports, i))
 }
 

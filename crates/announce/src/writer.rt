@@ -6,7 +6,7 @@ ghost use Rattle.announce.specs.Writing.{Writes};
 
 use selfid::codec::inverse;
 
-// The next word is written at place `at`. (A row with a place beside it, since the row is the caller's.)
+// The next word is written at place `at`. (A row with a place beside it, since the row is the caller's. It is no stack: what lies behind the place is kept.)
 #[derive(Drop)]
 pub(crate) struct Writer<'a> {
     pub(crate) words: &'a mut [u32],

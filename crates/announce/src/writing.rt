@@ -20,13 +20,13 @@ use selfid::mark::Mark;
 use stack::Stack;
 
 // A down port that was found: its child's row, and the port behind it.
-#[derive(Clone, Copy)]
+#[derive(Clone, Copy, Debug, PartialEq, Eq)]
 pub struct Found {
     pub child: u8,
     pub next: u8,
 }
 
-// How many ports from this one on are not down, if then one is.
+// How many ports from this one on are not down, if then one is. (A function of its own, since the next one's proof goes by what it promises.)
 fn first_down(ports: &[RowPort], from: usize) -> Option<usize>
     ensures is_its_place { result ≡ position is_down (drop from ports.now) }
 {

@@ -26,8 +26,8 @@ fn down(child: u8) -> RowPort
     ensures leads_to_the_row { result ≡ record { mark = mark_code Down; child = child } }
 {
     RowPort {
-        mark: u8::from(Mark::Down),
         child,
+        ..port(Mark::Down)
     }
 }
 
@@ -48,13 +48,15 @@ fn node(speed: Speed, power: u8) -> Row
 }
 
 // The node as a contender that initiated the bus reset.
-fn manager(mut row: Row) -> Row
+fn manager(row: Row) -> Row
     ensures sets_the_two_flags { (result.contender ≡ true) × (result.initiator ≡ true) }
     ensures keeps_the_ports { result.ports ≡ row.ports }
 {
-    row.contender = true;
-    row.initiator = true;
-    row
+    Row {
+        contender: true,
+        initiator: true,
+        ..row
+    }
 }
 
 // The node with these ports from port `first` on.
@@ -107,7 +109,7 @@ fn link(place: u8, length: u8) -> Row {
     let mut row = with(node(Speed::S100, place % 8), 0, &[port(first)]);
     row.gap = place % 64;
     row.speed = place % 3;
-    if length > 0 && place < length - 1 {
+    if place < length.saturating_sub(1) {
         with(row, 1, &[down(place + 1)])
     } else {
         row

@@ -10,17 +10,14 @@ use announce::described::Row;
 use announce::frame::Frame;
 use faulty::{spoiled, with_gap_count_of_64, with_ring};
 use selfid::node::NODE_LIMIT;
-use selfid::packet::{EXTENSION_LIMIT, Packet};
+use selfid::packet::{Extension, Packet, PacketZero, QUADLET_LIMIT};
 use std::io;
 
 mod bench;
 mod faulty;
 
-// The longest announcement: of each node all packets, two quadlets to a packet.
-const MOST_WORDS: usize = 2 * (1 + EXTENSION_LIMIT) * NODE_LIMIT;
-
 // How many elements of the two stack rows and of the row of words are lent.
-#[derive(Clone, Copy)]
+#[derive(Clone, Copy, Debug, PartialEq, Eq)]
 struct Room {
     reach: usize,
     walk: usize,
@@ -30,15 +27,14 @@ struct Room {
 const AMPLE: Room = Room {
     reach: NODE_LIMIT,
     walk: NODE_LIMIT,
-    words: MOST_WORDS,
+    words: QUADLET_LIMIT,
 };
 
 // Prints the quadlets, a packet and its inverse to a line.
 fn print_packets(rt: &HostRuntime, quadlets: &[u32]) -> io::Result<()> {
-    for pair in quadlets.chunks_exact(2) {
-        if let [packet, inverse] = pair {
-            println!(rt; "{packet:08X} {inverse:08X}")?;
-        }
+    let (pairs, _) = quadlets.as_chunks::<2>();
+    for [packet, inverse] in pairs {
+        println!(rt; "{packet:08X} {inverse:08X}")?;
     }
     Ok(())
 }
@@ -54,12 +50,9 @@ fn print_announcement(
     match announce(rows, reach, walk, words) {
         Ok(length) => {
             println!(rt; "reset")?;
-            print_packets(rt, &words[0..length])
+            print_packets(rt, &words[..length])
         }
-        Err(stop) => {
-            let number = stop.number();
-            println!(rt; "# refused: {number}")
-        }
+        Err(stop) => println!(rt; "# refused: {}", stop.number()),
     }
 }
 
@@ -68,16 +61,16 @@ fn print_bench(rt: &HostRuntime, name: &str, rows: &[Row], room: Room) -> io::Re
     println!(rt; "# {name}")?;
     let reach_room = room.reach.min(NODE_LIMIT);
     let walk_room = room.walk.min(NODE_LIMIT);
-    let word_room = room.words.min(MOST_WORDS);
+    let word_room = room.words.min(QUADLET_LIMIT);
     let mut reach = [0; NODE_LIMIT];
     let mut walk = [Frame { row: 0, port: 0 }; NODE_LIMIT];
-    let mut words = [0; MOST_WORDS];
+    let mut words = [0; QUADLET_LIMIT];
     print_announcement(
         rt,
         rows,
-        &mut reach[0..reach_room],
-        &mut walk[0..walk_room],
-        &mut words[0..word_room],
+        &mut reach[..reach_room],
+        &mut walk[..walk_room],
+        &mut words[..word_room],
     )
 }
 
@@ -170,23 +163,15 @@ fn print_word(rt: &HostRuntime, word: u32) -> io::Result<()> {
         Ok(packet) => {
             let sent = packet.encode();
             match packet {
-                Packet::Zero(zero) => {
-                    let number = zero.number;
+                Packet::Zero(PacketZero { number, .. }) => {
                     println!(rt; "# {word:08X} is packet zero of node {number}, sent as {sent:08X}")
                 }
-                Packet::Extension(extension) => {
-                    let number = extension.number;
-                    let turn = extension.turn;
-                    println!(rt;
-                        "# {word:08X} is extension {turn} of node {number}, sent as {sent:08X}"
-                    )
-                }
+                Packet::Extension(Extension { number, turn, .. }) => println!(rt;
+                    "# {word:08X} is extension {turn} of node {number}, sent as {sent:08X}"
+                ),
             }
         }
-        Err(flaw) => {
-            let number = flaw.number();
-            println!(rt; "# {word:08X} is no packet: {number}")
-        }
+        Err(flaw) => println!(rt; "# {word:08X} is no packet: {}", flaw.number()),
     }
 }
 

@@ -5,7 +5,8 @@ ghost use Rattle.judging.specs.Completion.{CompletionRule, CompletionRuleWithin,
 
 use selfid::node::{NODE_LIMIT, PORT_LIMIT};
 
-// So many nodes are finished, and so many loose ends are not joined yet.
+// So many nodes are finished, and so many loose ends are not joined yet. (Bytes, so that no sum of them is too large and no caller is asked for a bound.
+// Whoever counts in a wider type narrows by `as`, which the check lets pass only where the count is proved to fit.)
 #[derive(Clone, Copy, Debug, PartialEq, Eq)]
 pub struct Standing {
     pub finished: u8,

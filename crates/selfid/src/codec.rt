@@ -10,7 +10,7 @@ use crate::node::Fields;
 use crate::packet::{Extension, Packet, PacketFlaw, PacketZero};
 use crate::speed::Speed;
 
-// The codes of the marks, two bits each, the last mark lowest.
+// The codes of the marks, two bits each, the last mark lowest. (No fold: its closure would not be told that there is room for two bits more.)
 fn packed(marks: &[Mark]) -> u32
     requires few_marks { length marks.now ≤ 8 }
     ensures has_two_bits_for_each_mark { result ≡ packed_codes marks.now }
@@ -50,11 +50,11 @@ fn encode_extension(packet: Extension) -> u32
 }
 
 // The `width` bits of a word from bit `low` up, as a number.
-fn field(word: u32, low: u32, width: u32) -> u32
-    requires shifts_fit { (low < 32) × (width < 32) }
+fn field(word: u32, low: u32, width: u32) -> u8
+    requires shifts_fit { (low < 32) × (width ≤ 8) }
     ensures is_the_number_in_these_bits { result ≡ word / 2 ^ low % 2 ^ width }
 {
-    (word >> low) & ((1 << width) - 1)
+    ((word >> low) & ((1 << width) - 1)) as u8
 }
 
 // Is this bit of a word set?
@@ -65,14 +65,14 @@ fn is_set(word: u32, place: u32) -> bool
     field(word, place, 1) == 1
 }
 
-// The marks in so many pairs of bits, of which the last are bits 3-2.
+// The marks in so many pairs of bits, of which the last are bits 3-2. (No `from_fn`: its closure would need clauses longer than the loop.)
 fn marks_in<const N: usize>(word: u32) -> [Mark; N]
     requires within_the_word { N ≤ 15 }
     ensures are_the_marks_in_these_pairs { result ≡ marks_from N word }
 {
     let mut marks = [Mark::Absent; N];
     for (i, mark) in marks.iter_mut().enumerate() {
-        *mark = Mark::try_from(field(word, 2 * (N - i) as u32, 2) as u8).unwrap();
+        *mark = Mark::try_from(field(word, 2 * (N - i) as u32, 2)).unwrap();
     }
     marks
 }
@@ -86,9 +86,9 @@ fn fields_in(word: u32, speed: Speed) -> Fields
         link: is_set(word, 22),
         contender: is_set(word, 11),
         initiator: is_set(word, 1),
-        gap: field(word, 16, 6) as u8,
+        gap: field(word, 16, 6),
         speed,
-        power: field(word, 8, 3) as u8,
+        power: field(word, 8, 3),
     }
 }
 
@@ -98,9 +98,9 @@ fn decode_zero(word: u32) -> Result<Packet, PacketFlaw>
     if field(word, 12, 2) != 0 {
         return Err(PacketFlaw::ReservedBit);
     }
-    let speed = Speed::try_from(field(word, 14, 2) as u8).map_err(|_| PacketFlaw::ReservedBit)?;
+    let speed = Speed::try_from(field(word, 14, 2)).map_err(|_| PacketFlaw::ReservedBit)?;
     Ok(Packet::Zero(PacketZero {
-        number: field(word, 24, 6) as u8,
+        number: field(word, 24, 6),
         fields: fields_in(word, speed),
         marks: marks_in(word),
         more: is_set(word, 0),
@@ -120,8 +120,8 @@ fn extension_in(word: u32) -> Extension
     ensures is_the_extension_in_it { result ≡ extension_in word }
 {
     Extension {
-        number: field(word, 24, 6) as u8,
-        turn: field(word, 20, 3) as u8,
+        number: field(word, 24, 6),
+        turn: field(word, 20, 3),
         marks: marks_in(word),
         more: is_set(word, 0),
     }

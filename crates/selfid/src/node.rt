@@ -1,4 +1,4 @@
-//! What a node tells of itself besides its ports.
+//! What a node tells of itself: its fields, and the marks of its ports.
 
 ghost use Rattle.std.specs.Prelude.{◌<◌};
 
@@ -13,7 +13,7 @@ pub const NODE_LIMIT: usize = 63;
 
 // A node's fields: whether its link layer is active, whether it contends for isochronous resource manager, whether it initiated the bus reset,
 // its gap count, its speed and its power class. The two numbers are always in range.
-#[derive(Clone, Copy)]
+#[derive(Clone, Copy, Debug, PartialEq, Eq)]
 pub struct Fields {
     pub link: bool,
     pub contender: bool,
@@ -26,7 +26,7 @@ pub struct Fields {
 }
 
 // What a node tells: its fields and the marks of its ports.
-#[derive(Clone, Copy)]
+#[derive(Clone, Copy, Debug, PartialEq, Eq)]
 pub struct Node {
     pub fields: Fields,
     pub marks: [Mark; PORT_LIMIT],

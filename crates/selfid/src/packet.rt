@@ -4,7 +4,7 @@ ghost use Rattle.std.specs.Prelude.{◌≡◌, ◌<◌};
 ghost use Rattle.selfid.specs.Stops.{flaw_number};
 
 use crate::mark::Mark;
-use crate::node::{Fields, PORT_LIMIT};
+use crate::node::{Fields, NODE_LIMIT, PORT_LIMIT};
 
 // Packet zero has the marks of so many ports, and each extension those of so many more.
 pub const ZERO_PORTS: usize = 3;
@@ -15,8 +15,11 @@ pub const EXTENSION_PORTS: usize = 8;
 pub const EXTENSION_LIMIT: usize = (PORT_LIMIT - ZERO_PORTS + EXTENSION_PORTS - 1)
     / EXTENSION_PORTS;
 
+// An announcement has at most so many quadlets: of each node all packets, each with its inverse.
+pub const QUADLET_LIMIT: usize = 2 * (1 + EXTENSION_LIMIT) * NODE_LIMIT;
+
 // The first packet of a node: its number, its fields and the marks of ports 0 to 2.
-#[derive(Clone, Copy)]
+#[derive(Clone, Copy, Debug, PartialEq, Eq)]
 pub struct PacketZero {
     pub number: u8,
     pub fields: Fields,
@@ -27,7 +30,7 @@ pub struct PacketZero {
 
 // A later packet of a node: extension number `turn`, with the marks of the eight ports from 8 × turn + 3 on.
 // Any number that three bits hold can be told apart here; a node sends none but the first of them.
-#[derive(Clone, Copy)]
+#[derive(Clone, Copy, Debug, PartialEq, Eq)]
 pub struct Extension {
     pub number: u8,
     pub turn: u8,
@@ -37,7 +40,7 @@ pub struct Extension {
     ghost turn_in_range: { turn < 8 },
 }
 
-#[derive(Clone, Copy)]
+#[derive(Clone, Copy, Debug, PartialEq, Eq)]
 pub enum Packet {
     Zero(PacketZero),
     Extension(Extension),

@@ -41,10 +41,6 @@ impl<'a> Source for ReceiveBuffer<'a> {
     ghost ending = { end_of_the_row };
 
     fn draw(&mut self) -> Result<Option<u32>, SourceStop> {
-        let Some((first, rest)) = self.words.split_first() else {
-            return Ok(None);
-        };
-        self.words = rest;
-        Ok(Some(*first))
+        Ok(self.words.split_off_first().copied())
     }
 }

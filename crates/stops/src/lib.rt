@@ -22,8 +22,8 @@ pub enum QuadletStop {
     Spoiled(usize),
 }
 
-// (It has the shape of the stop of a quadlet, but its second case tells another thing: one type for both would need a number to tell them apart.)
 // Why a record is void: a flawed quadlet spoiled the gathering, or the announcement was not whole after so many quadlets.
+// (It has the shape of the stop of a quadlet, but its second case tells another thing: one type for both would need a number to tell them apart.)
 #[derive(Clone, Copy, Debug, PartialEq, Eq)]
 pub enum Cause {
     SpoiledBy(Spoil),
@@ -44,7 +44,8 @@ pub enum Layer {
     Source,
 }
 
-// A fill took so many quadlets, and then the survey turned one away or the source stopped.
+// A fill took so many quadlets, and then the survey turned one away or the source stopped. (The count stands in both cases: a struct around them would be
+// taken apart wherever a fill is answered.)
 #[derive(Clone, Copy, Debug, PartialEq, Eq)]
 pub enum FillStop {
     Survey(usize, QuadletStop),
@@ -52,7 +53,7 @@ pub enum FillStop {
 }
 
 impl QuadletStop {
-    // The number of the stop.
+    // The number of the stop. (A case that holds a value can't stand with its number in the enum.)
     pub fn number(self) -> u8
         ensures is_its_number { result ≡ quadlet_number self }
     {

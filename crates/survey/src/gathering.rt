@@ -6,17 +6,13 @@ ghost use Rattle.survey.specs.Tallies.{Tally};
 
 use crate::tree::Tree;
 use arrayvec::ArrayVec;
-use selfid::node::NODE_LIMIT;
-use selfid::packet::EXTENSION_LIMIT;
+use selfid::packet::QUADLET_LIMIT;
 use stops::Spoil;
 
 mod beginning;
 mod filling;
 pub(crate) mod offering;
 mod settling;
-
-// An announcement has at most so many quadlets: three packets a node, each with its inverse.
-pub(crate) const QUADLET_LIMIT: usize = 2 * (1 + EXTENSION_LIMIT) * NODE_LIMIT;
 
 // The quadlets taken begin some cabling's announcement, and the tree tallies with them, whether a later one spoiled the gathering or not.
 #[derive(Drop)]

@@ -33,7 +33,7 @@ pub(crate) fn join(
     let mut waiting = taken;
     for (port, mark) in marks.iter().enumerate() {
         let mut far = None;
-        if let Mark::Down = mark {
+        if *mark == Mark::Down {
             if let [child, others @ ..] = waiting {
                 let parent = End {
                     node: number as u8,

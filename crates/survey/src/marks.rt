@@ -27,7 +27,7 @@ pub(crate) fn lowest_up(marks: &[Mark]) -> usize
         .unwrap_or(marks.len())
 }
 
-// The marks of all ports of a node that has told these: those that it does not tell are absent. (What it tells behind the last port is reserved bits.)
+// The marks of all ports of a node that has told these: those that it does not tell are absent. (What it tells behind the last port is reserved bits. It pads what was told; announcing cuts from the marks of all ports.)
 pub(crate) fn on_all_ports(told: &[Mark]) -> [Mark; PORT_LIMIT]
     ensures are_those_told { result ≡ take port_limit (told.now ++ replicate port_limit Absent) }
 {

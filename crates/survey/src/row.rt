@@ -19,13 +19,13 @@ pub struct Port {
 }
 
 // A node with its fields and its ports, by rising number.
-#[derive(Clone, Copy)]
+#[derive(Clone, Copy, Debug, PartialEq, Eq)]
 pub struct Row {
     pub fields: Fields,
     pub ports: [Port; PORT_LIMIT],
 }
 
-// A row that no node has filled yet: it has no port. (Fields have no default of their own, since their numbers are kept in range.)
+// A row that no node has filled yet, for the free places of an `ArrayVec`. (Fields can't derive a default, since their numbers are kept in range.)
 impl Default for Row {
     ghost use Rattle.std.specs.Prelude.{◌≡◌, false, replicate, None};
     ghost use Rattle.selfid.specs.declared.mark.Mark.TheVariants.{Absent};

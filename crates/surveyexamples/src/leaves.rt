@@ -18,18 +18,16 @@ fn leaf(number: u8) -> u32
     requires is_a_number { number < 64 }
     ensures is_its_packet { result ≡ leaf_word number }
 {
-    0x807F_4480 + number as u32 * 0x0100_0000
+    0x807F_4480 + (u32::from(number) << 24)
 }
 
 // Offers the leaves, each with its inverse, and answers how many quadlets were taken.
 fn offer_leaves(gathering: &mut Gathering) -> Result<usize, QuadletStop> {
-    let mut taken = 0;
     for number in 0..MOST_LEAVES {
         let packet = leaf(number);
         offer(gathering, &[packet, inverse(packet)])?;
-        taken = 2 * (number as usize + 1);
     }
-    Ok(taken)
+    Ok(2 * usize::from(MOST_LEAVES))
 }
 
 fn print_offer(rt: &HostRuntime, gathering: &mut Gathering, quadlet: u32) -> io::Result<()> {

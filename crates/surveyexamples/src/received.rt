@@ -9,7 +9,7 @@ use std::io;
 use stops::QuestionStop;
 use survey::gathering::Gathering;
 use survey::record::Record;
-use survey::row::Port;
+use survey::row::{End, Port};
 
 // A header, then two cameras and the root above them.
 const THREE_NODES: [u32; 7] = [
@@ -38,36 +38,33 @@ fn mark_name(mark: Mark) -> &'static str {
 }
 
 fn print_fields(rt: &HostRuntime, number: usize, fields: Fields) -> io::Result<()> {
-    let link = yes_or_no(fields.link);
-    let contender = yes_or_no(fields.contender);
-    let initiator = yes_or_no(fields.initiator);
-    let gap = fields.gap;
-    let speed = u8::from(fields.speed);
-    let power = fields.power;
     println!(rt;
-        "node {number}: link {link}, contender {contender}, initiator {initiator}, gap {gap}, speed {speed}, power {power}"
+        "node {number}: link {}, contender {}, initiator {}, gap {}, speed {}, power {}",
+        yes_or_no(fields.link),
+        yes_or_no(fields.contender),
+        yes_or_no(fields.initiator),
+        fields.gap,
+        u8::from(fields.speed),
+        fields.power
     )
 }
 
 // A port, unless it is absent.
 fn print_port(rt: &HostRuntime, number: usize, port: Port) -> io::Result<()> {
-    if let Mark::Absent = port.mark {
+    if port.mark == Mark::Absent {
         return Ok(());
     }
     let mark = mark_name(port.mark);
     match port.far {
-        Some(far) => {
-            let far_node = far.node;
-            let far_port = far.port;
-            println!(rt; "port {number} is {mark} to node {far_node} port {far_port}")
+        Some(End { node, port }) => {
+            println!(rt; "port {number} is {mark} to node {node} port {port}")
         }
         None => println!(rt; "port {number} is {mark}"),
     }
 }
 
 fn print_question_stop(rt: &HostRuntime, stop: QuestionStop) -> io::Result<()> {
-    let number = stop.number();
-    println!(rt; "{number}")
+    println!(rt; "{}", stop.number())
 }
 
 // A node of a record that is asked for by its number.
@@ -118,16 +115,9 @@ fn print_filled(rt: &HostRuntime, mut gathering: Gathering, words: &[u32]) -> io
     match ReceiveBuffer::open(words) {
         Ok(mut buffer) => match gathering.fill(&mut buffer) {
             Ok(taken) => print!(rt; "{taken} quadlets taken: ")?,
-            Err(stop) => {
-                let number = stop.number();
-                let place = stop.place();
-                print!(rt; "stopped with {number} at {place}: ")?;
-            }
+            Err(stop) => print!(rt; "stopped with {} at {}: ", stop.number(), stop.place())?,
         },
-        Err(stop) => {
-            let number = stop.number();
-            println!(rt; "{number}")?;
-        }
+        Err(stop) => println!(rt; "{}", stop.number())?,
     }
     Ok(gathering.settle())
 }
@@ -156,8 +146,7 @@ fn print_refusals(rt: &HostRuntime, bus: &Record, void: &Record) -> io::Result<(
     of_void.print(rt)?;
     print!(rt; "port 0 of node 0 of a void record: ")?;
     of_void.print_port(rt, 0)?;
-    let nodes = void.node_count();
-    println!(rt; "nodes of a void record: {nodes}")
+    println!(rt; "nodes of a void record: {}", void.node_count())
 }
 
 pub(crate) fn print_received(rt: &HostRuntime) -> io::Result<()> {

@@ -6,7 +6,7 @@ ghost use Rattle.surveyexamples.specs.Stops.{seen_cause, seen_stop};
 use std::fmt;
 use stops::{Cause, QuadletStop};
 
-// A stop, by its number and its place.
+// A stop, by its number and its place. (Not the stop of a source, though of its shape: that one ends a source.)
 #[derive(Clone, Copy, Debug, PartialEq, Eq)]
 pub struct Stop {
     pub number: u8,

@@ -33,10 +33,7 @@ pub(crate) fn cut_line(bytes: &[u8]) -> (&[u8], &[u8])
 pub(crate) fn is_note(line: &[u8]) -> bool
     ensures tells_if_it_is { result ≡ is_note_line line.now }
 {
-    match line {
-        [] => true,
-        [byte, ..] => *byte as char == '#',
-    }
+    line.first().is_none_or(|byte| matches!(*byte as char, '#'))
 }
 
 // Is the line `reset`?
@@ -57,7 +54,7 @@ fn is_word(piece: &[u8]) -> bool
 pub(crate) fn is_words(line: &[u8]) -> bool
     ensures tells_if_it_is { result ≡ is_words_line line.now }
 {
-    line.split(|byte| *byte as char == ' ').all(is_word)
+    line.split(|byte| matches!(*byte as char, ' ')).all(is_word)
 }
 
 // The word that eight digits tell, the highest first.

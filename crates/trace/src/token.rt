@@ -6,7 +6,7 @@ ghost use Rattle.trace.specs.Stops.{as_source_stop, trace_stop_number, trace_sto
 use source::SourceStop;
 
 // A line of a trace that can be read, without its byte 10, with its number. Lines are numbered from 1 over the whole trace.
-#[derive(Clone, Copy)]
+#[derive(Clone, Copy, Debug, PartialEq, Eq)]
 pub enum Token<'a> {
     Note { line: &'a [u8], place: usize },
     Reset { line: &'a [u8], place: usize },

@@ -12,9 +12,8 @@ impl Gathering {
     pub fn new() -> Gathering
         ensures nothing_is_offered { gathered result ≡ nothing_offered }
     {
-        let quadlets = ArrayVec::new();
         Gathering {
-            quadlets,
+            quadlets: ArrayVec::new(),
             tree: Tree::new(),
             spoil: None,
         }

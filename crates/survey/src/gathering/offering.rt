@@ -60,7 +60,7 @@ impl Gathering {
         self.quadlets.push(quadlet);
     }
 
-    // Offers a quadlet, which is taken or turned away.
+    // Offers a quadlet, which is taken or turned away. (A match, and no `?`: a flaw also spoils the gathering.)
     pub fn quadlet(&mut self, quadlet: u32) -> Result<(), QuadletStop>
         ensures takes_it_or_turns_it_away { QuadletCall (gathered self.old) quadlet result (gathered self.new) }
     {

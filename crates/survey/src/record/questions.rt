@@ -31,10 +31,7 @@ impl Record {
     pub fn void_cause(&self) -> Option<Cause>
         ensures is_the_cause { result ≡ void_cause (shown self.now) }
     {
-        match &self.bus {
-            Ok(_) => None,
-            Err(cause) => Some(*cause),
-        }
+        self.bus.as_ref().err().copied()
     }
 
     // How many nodes the bus has: none if the record is void.
@@ -42,20 +39,15 @@ impl Record {
         ensures is_the_count { result ≡ node_count (shown self.now) }
         ensures fits_a_bus { result ≤ node_limit }
     {
-        match &self.bus {
-            Ok(rows) => rows.len(),
-            Err(_) => 0,
-        }
+        self.bus.as_ref().map_or(0, |rows| rows.len())
     }
 
     // A node, if the record is that of a bus and has such a node.
     fn row(&self, number: usize) -> Result<Row, QuestionStop>
         ensures is_that_node { result ≡ row_asked (shown self.now) number }
     {
-        match &self.bus {
-            Ok(rows) => found(rows, number),
-            Err(_) => Err(QuestionStop::Void),
-        }
+        let rows = self.bus.as_ref().or(Err(QuestionStop::Void))?;
+        found(rows, number)
     }
 
     // The fields of a node.

@@ -1,5 +1,5 @@
 use Rattle.std.proofs.Common.{◌≡◌, ◌+◌, ◌-◌, ◌*◌, ◌/◌, ◌%◌, ◌^◌, ◌<◌, [], ◌∷◌, ◌++◌, length, take, Some, ap, ◌∙◌, sym, arith}
-use Rattle.std.proofs.lemmas.List.{take_more_set, length-set, append_assoc, take_all, append-nil}
+use Rattle.std.proofs.lemmas.List.{take_more_set, length-set, append_assoc}
 use Rattle.std.proofs.lemmas.Nat.{mod_below}
 use Rattle.std.proofs.Common.{lit<}
 use Rattle.selfid.specs.Marks.{mark_of}
@@ -28,15 +28,4 @@ loop-i-preserved g c =
           ∙ ap (λ ms. take i items ++ ms) (ap (λ m. m ∷ rest) found ∙ ap (λ n. mark_in (q / 2 ^ (2 * k) % 4) ∷ marks_from n q) (sym one_less) ∙ next)
           ∙ c.loop-i.invariant.all;
       long = length-set items i c.unwrap.result ∙ c.loop-i.invariant.long;
-    }
-
-pub returns : goal.returns
-returns g c =
-    let q = c.args.word in
-    let items = c.loop-i.mark-items in
-    let none : g.row.N - c.loop-i.i ≡ 0 = omega (arith, c.loop-i-test.false) in
-    record {
-      are_the_marks_in_these_pairs =
-          sym (ap (λ ms. take c.loop-i.i items ++ ms) (ap (λ n. marks_from n q) none) ∙ append-nil (take c.loop-i.i items) ∙ take_all c.loop-i.i items (omega (arith, c.loop-i.invariant.long, c.loop-i-test.false)))
-          ∙ c.loop-i.invariant.all;
     }

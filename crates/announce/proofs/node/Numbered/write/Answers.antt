@@ -1,15 +1,10 @@
 use Rattle.std.proofs.Common.{arith}
 use Rattle.selfid.specs.Packets.{with_inverses}
-use Rattle.announce.proofs.Putting.{left, none_sent, one_sent, has_room, turn_small, all_sent, both_written}
+use Rattle.announce.proofs.Putting.{left, none_sent, one_sent, has_room, all_sent, both_written}
 use Rattle.announce.proofs.node.Numbered.write.Goals as goal
 
 pub loop-turn-init : goal.loop-turn-init
 loop-turn-init c = none_sent _ _ c.zero.result c.args.self.now.node _ _ c.extension_count-turn-end.ensures.counts_them c.requires.there_is_room c.write.ensures.writes_both
-
-pub extension-requires : goal.extension-requires
-extension-requires c =
-    let small = turn_small _ _ _ _ _ _ c.loop-turn.invariant c.loop-turn-test.true in
-    record { turn_fits = omega arith }
 
 pub write-requires-in-loop-turn : goal.write-requires-in-loop-turn
 write-requires-in-loop-turn c = record { there_is_room = has_room _ _ _ _ _ _ c.loop-turn.invariant c.loop-turn-test.true }
