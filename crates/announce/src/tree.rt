@@ -34,6 +34,7 @@ fn reach_children(
         if !port.has(Mark::Down) {
             continue;
         }
+        // (`as` widens here, and is no call that the proof would have to go through.)
         let child = port.child as usize;
         if reached[child] {
             return Err(DescriptionStop::NoTree);
@@ -79,6 +80,7 @@ impl Walk<'_, u8> {
         let mut waiting = Stack::new(&mut self.stack[..rows.len()]);
         push(&mut waiting, 0);
         while let Some(next) = waiting.pop() {
+            // (`as` widens here, and is no call that the proof would have to go through.)
             let ports = &rows[next as usize].ports;
             reach_children(ports, &mut reached, &mut waiting)?;
         }

@@ -99,6 +99,7 @@ impl Walk<'_, Frame> {
         push(&mut open, Frame { row: 0, port: 0 });
         let mut number: u8 = 0;
         while let Some(frame) = open.pop() {
+            // (`as` widens here, and is no call that the proof would have to go through.)
             let row = &rows[frame.row as usize];
             match next_down(&row.ports, frame.port as usize) {
                 Some(found) => enter(&mut open, frame.row, found),

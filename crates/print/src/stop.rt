@@ -11,7 +11,7 @@ pub enum LineStop {
 }
 
 impl LineStop {
-    // The number of the stop.
+    // The number of the stop. (Written for each kind of stop: no generic function turns an enum into its number.)
     pub fn number(self) -> u8
         ensures is_its_number { result ≡ stop_number self }
     {

@@ -97,7 +97,7 @@ impl Cause {
 }
 
 impl QuestionStop {
-    // The number of the stop. It has no place.
+    // The number of the stop. It has no place. (Written for each kind of stop: no generic function turns an enum into its number.)
     pub fn number(self) -> u8
         ensures is_its_number { result ≡ question_number self }
     {

@@ -66,6 +66,7 @@ impl Tree {
         if usize::from(number) != self.rows.len() {
             return Err(Flaw::WrongNumber);
         }
+        // (`as` widens here, and is no call that the proof would have to go through.)
         if turn != self.turn || turn as usize == EXTENSION_LIMIT && more {
             return Err(Flaw::OutOfTurn);
         }
