@@ -12,8 +12,9 @@ impl Gathering {
     pub fn new() -> Gathering
         ensures nothing_is_offered { gathered result ≡ nothing_offered }
     {
+        let quadlets = ArrayVec::new();
         Gathering {
-            quadlets: ArrayVec::new(),
+            quadlets,
             tree: Tree::new(),
             spoil: None,
         }

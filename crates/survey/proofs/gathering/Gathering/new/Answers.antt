@@ -4,4 +4,4 @@ use Rattle.survey.proofs.Settling.{fresh_facts}
 use Rattle.survey.proofs.gathering.Gathering.new.Goals as goal
 
 pub invariant_of-result : goal.invariant_of-result
-invariant_of-result c = subst (λ qs. Facts qs c.new-2.result) (sym c.new.ensures) (fresh_facts c.new-2.result c.new-2.ensures.has_heard_nothing)
+invariant_of-result c = subst (λ qs. Facts qs c.new.result) (sym c.new-quadlets.ensures) (fresh_facts c.new.result c.new.ensures.has_heard_nothing)
