@@ -75,7 +75,7 @@ impl Numbered {
         Packet::Zero(packet).encode()
     }
 
-    // The extension with this number.
+    // The extension with this number. (It is below 8, so that it fits a byte.)
     fn extension(&self, turn: usize) -> u32
         requires turn_fits { turn < 8 }
         ensures is_the_extension { result ≡ extension_word self.now.number turn (drop (8 * turn + 3) self.now.node.marks) (present (drop 8 (drop (8 * turn + 3) self.now.node.marks))) }

@@ -36,7 +36,7 @@ fn first_down(ports: &[RowPort], from: usize) -> Option<usize>
         .position(|port| port.has(Mark::Down))
 }
 
-// The first down port from this one on, if there is one.
+// The first down port from this one on, if there is one. (There are fewer than 256 ports, so that a port's number fits a byte.)
 fn next_down(ports: &[RowPort], from: usize) -> Option<Found>
     requires few_ports { length ports.now < 256 }
     ensures is_the_first_from_there_on { result ≡ down_from from (drop from ports.now) }

@@ -49,7 +49,7 @@ fn encode_extension(packet: Extension) -> u32
     node + turn + marks + u32::from(packet.more)
 }
 
-// The `width` bits of a word from bit `low` up, as a number.
+// The `width` bits of a word from bit `low` up, as a number. (At most 8 are left, so that they fit a byte.)
 fn field(word: u32, low: u32, width: u32) -> u8
     requires shifts_fit { (low < 32) × (width ≤ 8) }
     ensures is_the_number_in_these_bits { result ≡ word / 2 ^ low % 2 ^ width }
@@ -65,7 +65,8 @@ fn is_set(word: u32, place: u32) -> bool
     field(word, place, 1) == 1
 }
 
-// The marks in so many pairs of bits, of which the last are bits 3-2. (No `from_fn`: its closure would need clauses longer than the loop.)
+// The marks in so many pairs of bits, of which the last are bits 3-2. (No `from_fn`: its closure would need clauses longer than the loop.
+// N is at most 15, so that a place fits.)
 fn marks_in<const N: usize>(word: u32) -> [Mark; N]
     requires within_the_word { N ≤ 15 }
     ensures are_the_marks_in_these_pairs { result ≡ marks_from N word }

@@ -8,7 +8,7 @@ ghost use Rattle.std.specs.Prelude.{◌≡◌, ℕ, ⊤, List, drop, Result};
 ghost use Rattle.source.specs.declared.SourceStop.{SourceStop};
 ghost use Rattle.source.specs.Sources.{drawn_from};
 
-// Why a source stopped, by its number, and where.
+// Why a source stopped, by its number, and where. (Not an error type for each source: then each stop of a fill would be generic in it.)
 #[derive(Clone, Copy, Debug, PartialEq, Eq)]
 pub struct SourceStop {
     pub number: u8,

@@ -16,7 +16,7 @@ pub struct ReceiveBuffer<'a> {
 pub struct NoHeader;
 
 impl NoHeader {
-    // The number of the stop.
+    // The number of the stop. (One struct with one number: there is no enum for it to stand in.)
     pub fn number(self) -> u8
         ensures is_its_number { result ≡ no_header_number }
     {

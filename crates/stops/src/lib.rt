@@ -75,7 +75,7 @@ impl QuadletStop {
 }
 
 impl Cause {
-    // The number of the stop.
+    // The number of the stop. (A match: a case that holds a value can't stand with its number in the enum.)
     pub fn number(self) -> u8
         ensures is_its_number { result ≡ cause_number self }
     {

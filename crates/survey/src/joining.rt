@@ -31,10 +31,12 @@ pub(crate) fn join(
     let number = rows.len();
     let mut ports = [Port::default(); PORT_LIMIT];
     let mut waiting = taken;
+    // (A loop, and no map: it also sets the far ends in the children's rows, and takes one end after the other.)
     for (port, mark) in marks.iter().enumerate() {
         let mut far = None;
         if *mark == Mark::Down {
             if let [child, others @ ..] = waiting {
+                // (Numbers of nodes and ports are small, and fit a byte.)
                 let parent = End {
                     node: number as u8,
                     port: port as u8,

@@ -29,7 +29,7 @@ pub(crate) fn cut_line(bytes: &[u8]) -> (&[u8], &[u8])
     }
 }
 
-// Is the line a note: empty, or with the note sign first?
+// Is the line a note: empty, or with the note sign first? (A sign is matched as a char, as digits are.)
 pub(crate) fn is_note(line: &[u8]) -> bool
     ensures tells_if_it_is { result ≡ is_note_line line.now }
 {
@@ -50,7 +50,7 @@ fn is_word(piece: &[u8]) -> bool
     piece.len() == 8 && piece.iter().all(|byte| digit_value(*byte).is_some())
 }
 
-// Is the line words with one space between?
+// Is the line words with one space between? (The space is matched as a char, as digits are.)
 pub(crate) fn is_words(line: &[u8]) -> bool
     ensures tells_if_it_is { result ≡ is_words_line line.now }
 {

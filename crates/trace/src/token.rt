@@ -21,7 +21,7 @@ pub enum TraceStop {
 }
 
 impl TraceStop {
-    // The number of the stop.
+    // The number of the stop. (A match: a case that holds a value can't stand with its number in the enum.)
     pub fn number(self) -> u8
         ensures is_its_number { result ≡ trace_stop_number self }
     {

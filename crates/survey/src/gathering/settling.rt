@@ -12,7 +12,7 @@ use selfid::node::NODE_LIMIT;
 use stops::Cause;
 
 impl Gathering {
-    // Everything taken is forgotten, and so is what spoiled the gathering.
+    // Everything taken is forgotten, and so is what spoiled the gathering. (The record's reset promises the same: each is a call of its own type.)
     pub fn reset(self) -> Gathering
         ensures nothing_is_offered { gathered result ≡ nothing_offered }
     {

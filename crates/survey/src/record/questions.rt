@@ -74,7 +74,7 @@ impl Record {
         found(&row.ports, port)
     }
 
-    // A gathering with nothing offered.
+    // A gathering with nothing offered. (The gathering's reset promises the same: each is a call of its own type.)
     pub fn reset(self) -> Gathering
         ensures nothing_is_offered { gathered result ≡ nothing_offered }
     {

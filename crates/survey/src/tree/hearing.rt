@@ -27,6 +27,7 @@ impl Tree {
         });
         self.ends.truncate(first);
         if !rooted {
+            // (Numbers of nodes and ports are small, and fit a byte.)
             self.ends.push(End {
                 node: number as u8,
                 port: lowest_up(&marks) as u8,

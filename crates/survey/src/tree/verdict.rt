@@ -25,6 +25,7 @@ impl Tree {
     fn can_be_completed(&self, node: NodeSoFar) -> bool
         ensures tells_if_there_are_enough_nodes { result ≡ completable self.now node.told.ups node.told.downs node.turn node.more }
     {
+        // (Narrowed by `as`, which the check lets pass only where a count is proved to fit.)
         let standing = Standing {
             finished: self.rows.len() as u8,
             loose: self.ends.len() as u8,
@@ -75,6 +76,7 @@ impl Tree {
         }
         let ups = count(&self.marks, Mark::Up) + count(marks, Mark::Up);
         let downs = count(&self.marks, Mark::Down) + count(marks, Mark::Down);
+        // (Narrowed as above.)
         let told = Told {
             ups: ups as u8,
             downs: downs as u8,
