@@ -46,15 +46,20 @@ fn mark_of(port: RowPort) -> Mark
     Mark::try_from(port.mark).unwrap()
 }
 
-// The marks that the ports tell of.
+// The marks that the ports tell of. (A loop, and no `map` of the array: that moves the ports out one after another, in twice the time of a whole announcement.)
 fn marks_of(ports: &[RowPort; PORT_LIMIT]) -> [Mark; PORT_LIMIT]
     requires all_are_in_range { list_all is_mark ports.now ≡ true }
     ensures have_their_codes { HaveMarks ports.now result }
 {
-    ports.map(mark_of)
+    let mut marks = [Mark::Absent; PORT_LIMIT];
+    for (i, mark) in marks.iter_mut().enumerate() {
+        *mark = mark_of(ports[i]);
+    }
+    marks
 }
 
-// The node that the row tells of.
+// The node that the row tells of. (Inlined, so that whoever asks for a part of it doesn't have the whole put together.)
+#[inline(always)]
 pub(crate) fn node_of(row: &Row) -> Node
     requires has_codes { has_codes row.now ≡ true }
     ensures is_told_by_the_row { TellsNode row.now result }

@@ -12,7 +12,7 @@ use crate::room::push;
 use crate::stop::DescriptionStop;
 use crate::walk::Walk;
 use selfid::mark::Mark;
-use selfid::node::NODE_LIMIT;
+use selfid::node::{NODE_LIMIT, PORT_LIMIT};
 use stack::Stack;
 
 // Puts the rows of the children on the stack, which has room for just as many as there are rows. A row that was reached before is refused: no tree has it.
@@ -46,14 +46,14 @@ fn reach_children(
 }
 
 // How many of the ports are marked up.
-fn count_ups(ports: &[RowPort]) -> usize
+fn count_ups(ports: &[RowPort; PORT_LIMIT]) -> usize
     ensures counts_them { result ≡ ups_of ports.now }
 {
     ports.iter().filter(|port| port.has(Mark::Up)).count()
 }
 
 // Has row i, of which these are the ports, the up marks that are due: none in row 0, one in any other?
-fn has_its_ups(ports: &[RowPort], i: usize) -> bool
+fn has_its_ups(ports: &[RowPort; PORT_LIMIT], i: usize) -> bool
     ensures tells_if_it_has { result ≡ (ups_of ports.now == ups_due i) }
 {
     count_ups(ports) == usize::from(i > 0)

@@ -48,11 +48,15 @@ fn mark_letter(mark: Mark) -> u8
     }
 }
 
-// A letter for each mark.
+// A letter for each mark. (A loop, and no `map` of the array, which moves the marks out one after another.)
 fn marks_text(marks: &[Mark; PORT_LIMIT]) -> [u8; PORT_LIMIT]
     ensures are_their_letters { result ≡ map mark_letter marks.now }
 {
-    marks.map(mark_letter)
+    let mut letters = [b'.'; PORT_LIMIT];
+    for (i, letter) in letters.iter_mut().enumerate() {
+        *letter = mark_letter(marks[i]);
+    }
+    letters
 }
 
 pub(crate) fn node_line(number: usize, fields: Fields, marks: &[Mark; PORT_LIMIT]) -> Line

@@ -147,7 +147,7 @@ module _ {ps : List ℕ} {t : Tree} {q : ℕ} {p : Packet} (tally : Tally ps t) 
   loose_in_range = omega (arith, tally.counts.0, tally.counts.1, loose_few (finished_nodes ps))
 
   can_end : CanEnd then
-  can_end = (next.room, loose_in_range, omega (arith, downs_then, next.few_downs, tally.counts.1), ap (ends_within (finished t)) ends_were ∙ ends_are_ports (finished t) (cablings_of ps) (omega (arith, nodes_waiting)) can_hang)
+  can_end = (next.room, loose_in_range, omega (arith, downs_then, next.few_downs, tally.counts.1), ap (ends_within (finished t)) ends_were ∙ ends_are_ports (finished t) (cablings_of ps) (omega (arith, nodes_waiting)) can_hang, downs_of_ports)
 
   can_tell : CanTell t (fields_sent t p) (marks_in q) (has_more q)
   can_tell = (tally.turn.0, omega (arith, ap length tally.marks, long, wide_now, within), λ _. can_end)

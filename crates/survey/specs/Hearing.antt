@@ -51,13 +51,14 @@ abbrev pub heard : Tree → Packet → Tree
 heard t (Zero p) = heard_parts t p.fields p.marks p.more
 heard t (Further p) = heard_parts t t.fields p.marks p.more
 
--- The node under way can end: the loose ends are there for its down marks, and there is a row for it.
+-- The node under way can end: the loose ends are there for its down marks, which are all on its ports, and there is a row for it.
 abbrev pub CanEnd : Tree → Type 0
 CanEnd t =
     (finished t < node_limit)
     × (loose t ≤ finished t)
     × (downs t.marks.items ≤ loose t)
     × (ends_within (finished t) t.ends.items ≡ true)
+    × (downs (node_marks t) ≡ downs t.marks.items)
 
 -- The node under way can tell these marks: there is room for them, and if they are its last, it can end.
 abbrev pub CanTell : Tree → Fields → List Mark → (more : Bool) → Type 0

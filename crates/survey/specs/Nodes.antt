@@ -1,12 +1,12 @@
 -- What a cabling shows: its nodes by number, with fields, marks and far ends.
-use Rattle.std.specs.Prelude.{ℕ, suc, ◌+◌, List, [], ◌∷◌, ◌++◌, Some, None, Option}
+use Rattle.std.specs.Prelude.{◌≡◌, ℕ, suc, ◌+◌, List, length, [], ◌∷◌, ◌++◌, Some, None, Option}
 use Rattle.selfid.specs.declared.node.Fields.{Fields}
 use Rattle.selfid.specs.declared.mark.Mark.{Mark}
 use Rattle.selfid.specs.declared.mark.Mark.TheVariants.{Absent, Open, Up, Down}
 use Rattle.survey.specs.declared.row.End.{End}
 use Rattle.survey.specs.declared.row.Port.{Port}
 use Rattle.survey.specs.declared.row.Row.{Row}
-use Rattle.selfid.specs.Cabling.{Cabling, node, Ports, end, plain, down, Childless, absent, «open», up, size, size_below}
+use Rattle.selfid.specs.Cabling.{Cabling, Proper, node, Ports, end, plain, down, Childless, absent, «open», up, size, size_below}
 
 abbrev pub end_at : (n p : ℕ) → End
 end_at n p = record { node = n; port = p }
@@ -55,3 +55,7 @@ abbrev mutual
 -- All nodes of a cabling: the root hangs from nothing.
 abbrev pub nodes_of : Cabling → List Row
 nodes_of c = nodes_from 0 None c
+
+-- These rows are the nodes of some proper cabling, and as many. Only that there is one is said: what a record of it holds is no cabling, but its nodes.
+abbrev pub SomeCabling : List Row → Type 0
+SomeCabling rs = ∥ ((c : Cabling) × Proper c × (rs ≡ nodes_of c) × (length (nodes_of c) ≡ size c)) ∥₁

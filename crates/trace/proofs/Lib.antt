@@ -1,4 +1,5 @@
 pub mod Cuts
+pub mod Pieces
 pub mod Values
 pub mod Firsts
 pub mod Passing

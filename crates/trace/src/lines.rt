@@ -17,7 +17,9 @@ fn digit_value(byte: u8) -> Option<u8>
     }
 }
 
-// The first line without its byte 10, and the bytes behind it.
+// The first line without its byte 10, and the bytes behind it. (It is called for each line, and so are `read_line` and `next` of the reader:
+// put into the loops that call them, what they tell of a line needs no place in memory, and short lines take a third of the time.)
+#[inline(always)]
 pub(crate) fn cut_line(bytes: &[u8]) -> (&[u8], &[u8])
     requires is_not_empty { 0 < length bytes.now }
     ensures cuts_at_the_first_line_feed { lines_of bytes.now ≡ result.0.now ∷ lines_of result.1.now }
@@ -43,18 +45,29 @@ pub(crate) fn is_reset(line: &[u8]) -> bool
     line == b"reset".as_slice()
 }
 
-// Is the piece of a line a word: eight digits?
-fn is_word(piece: &[u8]) -> bool
-    ensures tells_if_it_is { result ≡ is_word piece.now }
-{
-    piece.len() == 8 && piece.iter().all(|byte| digit_value(*byte).is_some())
-}
-
-// Is the line words with one space between? (The space is matched as a char, as digits are.)
+// Is the line words of eight digits with one space between? (The space is matched as a char, as digits are. A loop, and no `split` at the spaces:
+// that looks for the next space before it looks at the first digit, so that a long line of something else takes twice the time.)
 pub(crate) fn is_words(line: &[u8]) -> bool
     ensures tells_if_it_is { result ≡ is_words_line line.now }
 {
-    line.split(|byte| matches!(*byte as char, ' ')).all(is_word)
+    let mut digits: usize = 0;
+    for byte in line {
+        match *byte as char {
+            ' ' => {
+                if digits != 8 {
+                    return false;
+                }
+                digits = 0;
+            }
+            _ => {
+                if digit_value(*byte).is_none() {
+                    return false;
+                }
+                digits += 1;
+            }
+        }
+    }
+    digits == 8
 }
 
 // The word that eight digits tell, the highest first.

@@ -35,6 +35,7 @@ impl Record {
     }
 
     // How many nodes the bus has: none if the record is void.
+    #[tactic(auto, using(crate::proofs::Settling::few_nodes))]
     pub fn node_count(&self) -> usize
         ensures is_the_count { result ≡ node_count (shown self.now) }
         ensures fits_a_bus { result ≤ node_limit }

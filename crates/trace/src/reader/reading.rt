@@ -11,7 +11,8 @@ use crate::token::{Token, TraceStop};
 
 const LONGEST_LINE: usize = 255;
 
-// What the line of this number tells, or why it cannot be read.
+// What the line of this number tells, or why it cannot be read. (Inlined, as `cut_line` says.)
+#[inline(always)]
 fn read_line(line: &[u8], place: usize) -> Result<Token<'_>, TraceStop>
     ensures tells_its_kind { line_told result ≡ told_of (kind_of line.now) line.now place }
 {
@@ -59,7 +60,8 @@ impl<'a> Iterator for Reader<'a> {
 
     ghost remaining = { item_count lines_left };
 
-    // What the next line tells, and passes over it, also if it cannot be read.
+    // What the next line tells, and passes over it, also if it cannot be read. (Inlined, as `cut_line` says.)
+    #[inline(always)]
     fn next(&mut self) -> Option<Result<Token<'a>, TraceStop>> {
         if self.rest.is_empty() {
             return None;

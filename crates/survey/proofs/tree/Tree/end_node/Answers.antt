@@ -27,6 +27,13 @@ overflow_sub-first c =
 pub join-ports-requires-clause-ends_are_ports_of_nodes : goal.join-ports-requires-clause-ends_are_ports_of_nodes
 join-ports-requires-clause-ends_are_ports_of_nodes c = rw (take_rest, c.deref-4.ensures.0, c.as_mut_slice.ensures.value) (within_behind (finished c.args.self.now) (c.len.result - c.count.result) c.args.self.now.ends.items c.requires.it_can_end.3)
 
+pub join-ports-requires-clause-one_for_each_down_mark : goal.join-ports-requires-clause-one_for_each_down_mark
+join-ports-requires-clause-one_for_each_down_mark c =
+    let t = c.args.self.now in
+    let d : c.count.result ≡ downs t.marks.items = c.count.ensures.is_how_often_it_comes ∙ downs_counted c.deref.result.now ∙ ap downs c.deref.ensures.0 in
+    let marks : c.on_all_ports-marks.result ≡ node_marks t = c.on_all_ports-marks.ensures.are_those_told ∙ ap (λ (l : List Mark). take port_limit (l ++ replicate port_limit Absent)) c.deref-3.ensures.0 in
+    omega (arith, d, ap downs marks, c.requires.it_can_end.2, c.requires.it_can_end.4, c.len.ensures.value, ap length c.deref-4.ensures.0)
+
 pub overflow_cast-lowest_up : goal.overflow_cast-lowest_up
 overflow_cast-lowest_up c =
     let ms = c.on_all_ports-marks.result in

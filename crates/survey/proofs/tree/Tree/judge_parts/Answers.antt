@@ -1,4 +1,5 @@
-use Rattle.std.proofs.Common.{◌≡◌, ℕ, ◌+◌, ◌<◌, true, false, sym, ap, ◌∙◌, ap₂, arith}
+use Rattle.std.proofs.Common.{◌≡◌, ℕ, ◌+◌, ◌<◌, true, false, length, take, sym, ap, ◌∙◌, ap₂, arith, rules}
+use Rattle.std.proofs.lemmas.List.{take_all}
 use Rattle.selfid.specs.Marks.{ups, downs, present}
 use Rattle.survey.specs.Judging.{finished, judged_marks}
 use Rattle.survey.proofs.Marking.{all_absent, one_there, ups_counted, downs_counted}
@@ -16,8 +17,10 @@ pub returns : goal.returns
 returns c =
     let t = c.args.self.now in
     let n : c.args.number ≡ finished t = omega (arith, c.from.ensures) in
+    let whole : take (length t.marks.items) t.marks.items ≡ t.marks.items = take_all (length t.marks.items) t.marks.items (omega arith) in
+    let before : c.count-2.result ≡ ups t.marks.items = search (rules, whole, ups_counted t.marks.items) in
     let u : c.count-2.result + c.count-3.result ≡ ups t.marks.items + ups c.args.marks.now =
-    ap₂ (λ (a b : ℕ). a + b) (c.count-2.ensures.is_how_often_it_comes ∙ ups_counted _ ∙ ap ups c.deref.ensures.0) (c.count-3.ensures.is_how_often_it_comes ∙ ups_counted _) in
+    ap₂ (λ (a b : ℕ). a + b) before (c.count-3.ensures.is_how_often_it_comes ∙ ups_counted _) in
     let d : c.count-4.result + c.count-5.result ≡ downs t.marks.items + downs c.args.marks.now =
     ap₂ (λ (a b : ℕ). a + b) (c.count-4.ensures.is_how_often_it_comes ∙ downs_counted _ ∙ ap downs c.deref-2.ensures.0) (c.count-5.ensures.is_how_often_it_comes ∙ downs_counted _) in
     let some : 0 < c.args.turn → c.args.more ≡ false → present c.args.marks.now ≡ true =
