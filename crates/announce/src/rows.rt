@@ -46,7 +46,7 @@ fn mark_of(port: RowPort) -> Mark
     Mark::try_from(port.mark).unwrap()
 }
 
-// The marks that the ports tell of. (A loop, and no `map` of the array: that moves the ports out one after another, in twice the time of a whole announcement.)
+// The marks that the ports tell of. (A loop, and no `map` of the array, which moves the ports out one after another: with that a whole announcement takes twice the time.)
 fn marks_of(ports: &[RowPort; PORT_LIMIT]) -> [Mark; PORT_LIMIT]
     requires all_are_in_range { list_all is_mark ports.now ≡ true }
     ensures have_their_codes { HaveMarks ports.now result }

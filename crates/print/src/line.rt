@@ -27,6 +27,8 @@ impl Line {
         }
     }
 
+    // (Inlined, as the next one is: most texts are some few letters of known length, and so need no call.)
+    #[inline(always)]
     pub(crate) fn push_text(&mut self, text: &[u8])
         requires there_is_room { length (written self.old) + length text.now ≤ line_limit }
         ensures adds_the_text { written self.new ≡ written self.old ++ text.now }
@@ -36,6 +38,7 @@ impl Line {
     }
 
     // Adds a text and then a number.
+    #[inline(always)]
     pub(crate) fn push_labelled(&mut self, label: &[u8], number: usize)
         requires there_is_room { length (written self.old) + length label.now + digit_limit ≤ line_limit }
         ensures adds_the_label_and_the_digits { written self.new ≡ written self.old ++ label.now ++ decimal number }

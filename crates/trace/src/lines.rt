@@ -17,18 +17,21 @@ fn digit_value(byte: u8) -> Option<u8>
     }
 }
 
-// The first line without its byte 10, and the bytes behind it. (It is called for each line, and so are `read_line` and `next` of the reader:
-// put into the loops that call them, what they tell of a line needs no place in memory, and short lines take a third of the time.)
+// The first line without its byte 10, and the bytes behind it. (A loop over places: `position` makes a slice anew for each byte, which takes twice the time.
+// It is called for each line, and so are `read_line` and `next` of the reader: put into the loops that call them, what they tell of a line needs no place
+// in memory, and short lines take a third of the time.)
 #[inline(always)]
 pub(crate) fn cut_line(bytes: &[u8]) -> (&[u8], &[u8])
     requires is_not_empty { 0 < length bytes.now }
     ensures cuts_at_the_first_line_feed { lines_of bytes.now ≡ result.0.now ∷ lines_of result.1.now }
     ensures leaves_fewer { length result.1.now < length bytes.now }
 {
-    match bytes.iter().position(|byte| *byte == b'\n') {
-        Some(end) => (&bytes[..end], &bytes[end + 1..]),
-        None => (bytes, &[]),
+    for i in 0..bytes.len() {
+        if bytes[i] == b'\n' {
+            return (&bytes[..i], &bytes[i + 1..]);
+        }
     }
+    (bytes, &[])
 }
 
 // Is the line a note: empty, or with the note sign first? (A sign is matched as a char, as digits are.)
